@@ -1,0 +1,140 @@
+-- CALLS, SLOTS, RULES: document 01's section of that name, with no byte of the lent memory in it.
+use mathlib.Core.Path.{_≡_}
+use mathlib.Core.Bool.{Bool}
+use mathlib.Core.List.{List, []}
+use mathlib.Core.Option.{Option, none, some}
+use mathlib.Core.Logic.{_≢_}
+use Prim.Native.Nat.{ℕ, _<_, _≤_}
+use lib.ListN.{length, getD}
+use lib.Dec.{T, ltb}
+
+-- "A rule has a number 0 to 63, an arity 1 to 4, that many different calls (its columns 0 to 3), and 0 to 64 different rows, each with a slot per column."
+-- Its number is its place among the board's rules, its arity the number of its calls; `GoodRule`, below, has the limits
+pub record Rule : Type 0 where
+  pub calls : List ℕ
+  pub rows : List (List ℕ)
+
+-- A board: the slot count of each call, and the rule in force under each number
+pub record Board : Type 0 where
+  pub counts : List ℕ
+  pub rules : List (Option Rule)
+
+-- the call of column k, and the slot that row w has there; 255 past the last, as in the lent memory
+abbrev pub callAt : Rule → ℕ → ℕ
+callAt r k = getD (r .calls) k 255
+
+abbrev pub slotAt : Rule → ℕ → ℕ → ℕ
+slotAt r w k = getD (getD (r .rows) w []) k 255
+
+-- slot s of call c is on the board
+abbrev pub OnBoard : Board → ℕ → ℕ → Type 0
+OnBoard B c s = s < getD (B .counts) c 0
+
+-- rule r is in force under the number p
+abbrev pub InForce : Board → ℕ → Rule → Type 0
+InForce B p r = getD (B .rules) p none ≡ some r
+
+-- COLUMN k OF RULE r COUNTS on the board: every column of the rule does. All that a rule asks of its rows' slots goes by this one definition
+unfoldable pub counts? : Board → Rule → ℕ → Bool
+counts? B r k = ltb k (length (r .calls))
+
+abbrev pub Counts : Board → Rule → ℕ → Type 0
+Counts B r k = T (counts? B r k)
+
+-- r is a rule on call c
+pub record OnCall (B : Board) (r : Rule) (c : ℕ) : Type 0 where
+  pub column : ℕ
+  pub counts : Counts B r column
+  pub call : callAt r column ≡ c
+
+-- slot s of call c stands in row w of r
+pub record Holds (B : Board) (r : Rule) (w c s : ℕ) : Type 0 where
+  pub column : ℕ
+  pub counts : Counts B r column
+  pub call : callAt r column ≡ c
+  pub slot : slotAt r w column ≡ s
+
+-- A SET OF SLOTS is a type for each call and slot. Row w's slots are all in the set A
+abbrev pub Within : Board → (ℕ → ℕ → Type 0) → Rule → ℕ → Type 0
+Within B A r w = (k : ℕ) → Counts B r k → A (callAt r k) (slotAt r w k)
+
+-- slot s of call c stands in a row of r whose slots are all in A
+pub record Supported (B : Board) (A : ℕ → ℕ → Type 0) (r : Rule) (c s : ℕ) : Type 0 where
+  pub row : ℕ
+  pub inside : row < length (r .rows)
+  pub holds : Holds B r row c s
+  pub within : Within B A r row
+
+-- "A set of slots is self-supporting when each slot in it, in every rule in force on its call, stands in a row whose slots are all in the set."
+pub record SelfSupporting (B : Board) (A : ℕ → ℕ → Type 0) : Type 0 where
+  pub slots : (c s : ℕ) → A c s → OnBoard B c s
+  pub support : (c s : ℕ) → A c s → (p : ℕ) (r : Rule) → InForce B p r → OnCall B r c → Supported B A r c s
+
+-- the set of the slots that the test f passes
+abbrev pub Passing : (ℕ → ℕ → Bool) → ℕ → ℕ → Type 0
+Passing f c s = T (f c s)
+
+-- "The board's open slots are the union of all self-supporting sets." Slot s of call c is in one of them
+pub record Viable (B : Board) (c s : ℕ) : Type 0 where
+  pub set : ℕ → ℕ → Bool
+  pub self : SelfSupporting B (Passing set)
+  pub has : T (set c s)
+
+-- the same over sets that need have no test. It is in Type 1, where no contract can cite it; Laws.Filter shows that the two agree
+pub record ViableInAny (B : Board) (c s : ℕ) : Type 1 where
+  pub set : ℕ → ℕ → Type 0
+  pub self : SelfSupporting B set
+  pub has : set c s
+
+-- "A row is alive when all its slots are open."
+abbrev pub Alive : Board → Rule → ℕ → Type 0
+Alive B r w = Within B (Viable B) r w
+
+abbrev pub Dead : Board → Rule → ℕ → Type 0
+Dead B r w = Alive B r w → ⊥
+
+-- FULL PLAN, a term of document 01: it "gives every call one of its slots so that each rule in force has a row with, in each column, the slot given to
+-- that column's call. It uses the slots it gives."
+pub record FullPlan (B : Board) (plan : ℕ → ℕ) : Type 0 where
+  pub gives : (c : ℕ) → c < length (B .counts) → OnBoard B c (plan c)
+  pub keeps : (p : ℕ) (r : Rule) → InForce B p r
+      → (w : ℕ) × (w < length (r .rows)) × ((k : ℕ) → Counts B r k → slotAt r w k ≡ plan (callAt r k))
+
+-- "Two rules are the same when their calls agree column by column and their rows agree as sets; number and row order don't count."
+abbrev pub RowsIn : Rule → Rule → Type 0
+RowsIn r r′ = (w : ℕ) → w < length (r .rows) → (w′ : ℕ) × (w′ < length (r′ .rows)) × (getD (r .rows) w [] ≡ getD (r′ .rows) w′ [])
+
+pub record Same (r r′ : Rule) : Type 0 where
+  pub calls : r .calls ≡ r′ .calls
+  pub there : RowsIn r r′
+  pub back : RowsIn r′ r
+
+-- a rule in force on B is the same as r
+pub record SameIn (B : Board) (r : Rule) : Type 0 where
+  pub number : ℕ
+  pub rule : Rule
+  pub force : InForce B number rule
+  pub same : Same r rule
+
+-- the same calls and counts, and "at least the same rules": each rule in force on B has a same one on B′
+pub record AtLeast (B B′ : Board) : Type 0 where
+  pub counts : B .counts ≡ B′ .counts
+  pub rules : (p : ℕ) (r : Rule) → InForce B p r → SameIn B′ r
+
+-- THE SHAPE that every board keeps. A rule has 1 to 4 different calls of the board, and up to 64 different rows with a slot of its call per column
+pub record GoodRule (counts : List ℕ) (r : Rule) : Type 0 where
+  pub most : length (r .calls) ≤ 4
+  pub least : 0 < length (r .calls)
+  pub calls : (k : ℕ) → k < length (r .calls) → callAt r k < length counts
+  pub apart : (j k : ℕ) → j < k → k < length (r .calls) → callAt r j ≢ callAt r k
+  pub few : length (r .rows) ≤ 64
+  pub width : (w : ℕ) → w < length (r .rows) → length (getD (r .rows) w []) ≡ length (r .calls)
+  pub slots : (w k : ℕ) → w < length (r .rows) → k < length (r .calls) → slotAt r w k < getD counts (callAt r k) 0
+  pub rows : (v w : ℕ) → v < w → w < length (r .rows) → getD (r .rows) v [] ≢ getD (r .rows) w []
+
+-- "A board has 1 to 32 calls", and a fresh one none; "each has 1 to 32 slots"; rules are numbered 0 to 63
+pub record Shape (B : Board) : Type 0 where
+  pub calls : length (B .counts) ≤ 32
+  pub counts : (c : ℕ) → c < length (B .counts) → (0 < getD (B .counts) c 0) × (getD (B .counts) c 0 ≤ 32)
+  pub numbers : length (B .rules) ≡ 64
+  pub rules : (p : ℕ) (r : Rule) → InForce B p r → GoodRule (B .counts) r

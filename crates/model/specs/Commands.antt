@@ -1,0 +1,75 @@
+-- COMMANDS AS BYTES: what stands at a place of a file of commands. "One byte of kind, then a body whose length the kind fixes."
+use Prim.Native.Nat.{ℕ, _+_}
+use mathlib.Core.Bool.{Bool, _&&_, cond}
+use mathlib.Core.List.{List, [], _∷_}
+use lib.ListN.{length, getD, take, drop, replicate}
+use lib.Dec.{ltb, leb, eqb}
+use Rattle.model.specs.declared.command.Head.{Head}
+use Rattle.model.specs.declared.command.Row.{Row}
+use Rattle.model.specs.declared.command.Command.{Command}
+use Rattle.model.specs.declared.command.Command.the-variants as kind
+use Rattle.model.specs.declared.command.Read.{Read}
+use Rattle.model.specs.declared.command.Read.the-variants as found
+use Rattle.model.specs.declared.command.Decoded.{Decoded}
+
+-- kinds 1 to 5; the length of a kind's body
+abbrev pub isKind : ℕ → Bool
+isKind k = leb 1 k && leb k 5
+
+abbrev pub bodyLength : ℕ → ℕ
+bodyLength k = cond (eqb k 1) 32 (cond (eqb k 2) 6 (cond (eqb k 3) 4 (cond (eqb k 5) 1 0)))
+
+-- the bodies of kinds 2 and 3 that begin at b
+abbrev pub headAt : List ℕ → ℕ → Head
+headAt s b =
+    record { number = getD s b 0; arity = getD s (b + 1) 0; call0 = getD s (b + 2) 0; call1 = getD s (b + 3) 0; call2 = getD s (b + 4) 0; call3 = getD s (b + 5) 0 }
+
+abbrev pub rowAt : List ℕ → ℕ → Row
+rowAt s b = record { slot0 = getD s b 0; slot1 = getD s (b + 1) 0; slot2 = getD s (b + 2) 0; slot3 = getD s (b + 3) 0 }
+
+-- the four calls of a head, the four slots of a row
+abbrev pub callsOf : Head → List ℕ
+callsOf h = h .call0 ∷ h .call1 ∷ h .call2 ∷ h .call3 ∷ []
+
+abbrev pub slotsOf : Row → List ℕ
+slotsOf r = r .slot0 ∷ r .slot1 ∷ r .slot2 ∷ r .slot3 ∷ []
+
+-- the command of kind k whose body begins at b, and its kind
+abbrev pub commandAt : List ℕ → ℕ → ℕ → Command
+commandAt s k b =
+    cond (eqb k 1) kind.Board
+    (cond (eqb k 2) (kind.Head (headAt s b))
+    (cond (eqb k 3) (kind.Row (rowAt s b))
+    (cond (eqb k 4) kind.Put
+    (kind.Lift (getD s b 0)))))
+
+abbrev pub kindOf : Command → ℕ
+kindOf kind.Board = 1
+kindOf (kind.Head h) = 2
+kindOf (kind.Row r) = 3
+kindOf kind.Put = 4
+kindOf (kind.Lift n) = 5
+
+-- the 32 slot counts of a kind 1 whose body begins at b; zeros for every other kind
+abbrev pub countsAt : List ℕ → ℕ → ℕ → List ℕ
+countsAt s k b = cond (eqb k 1) (take 32 (drop b s)) (replicate 32 0)
+
+-- no command at a place: what is read there, and the place itself is the next
+abbrev pub without : Read → ℕ → Decoded
+without r at = record { read = r; counts = replicate 32 0; next = at }
+
+-- WHAT STANDS AT A PLACE OF A FILE: nothing at its end; refusal 3 where the kind is not 1 to 5, 4 where the body is cut short; else the command,
+-- its counts, and the place after its body
+abbrev pub readAt : List ℕ → ℕ → Decoded
+readAt s at =
+    cond (leb (length s) at)
+    (without found.End at)
+    (cond (isKind (getD s at 0))
+    (cond (leb (at + 1 + bodyLength (getD s at 0)) (length s))
+    (record {
+      read = found.Command (commandAt s (getD s at 0) (at + 1));
+      counts = countsAt s (getD s at 0) (at + 1);
+      next = at + 1 + bodyLength (getD s at 0);
+    })
+    (without (found.Refused (getD s at 0) 4) at))
+    (without (found.Refused (getD s at 0) 3) at))
