@@ -3,3 +3,10 @@ pub mod Records
 pub mod Tests
 pub mod Commands
 pub mod Ledger
+pub mod Filter
+pub mod Report
+pub mod Representation
+pub mod Promise
+pub mod Questions
+pub mod Sheet
+pub mod Laws

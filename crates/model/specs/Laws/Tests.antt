@@ -1,0 +1,178 @@
+-- What a passed or a failed test says. Assumes nothing.
+use mathlib.Core.Path.{_≡_, refl, sym, ap, _∙_}
+use mathlib.Core.Bool.{Bool, true, false, not, _&&_, _||_, cond}
+use mathlib.Core.List.{List, [], _∷_}
+use mathlib.Core.Logic.{_⊎_, inl, inr}
+use mathlib.Core.Option.{Option, none, some}
+use Prim.Native.Nat.{ℕ, zero, suc, _<_, _≤_, _+_}
+use native.Mathlib.Omega.{arith}
+use native.Mathlib.Nat.{eq-or-lt-of-le, le-of-suc-le-suc}
+use native.Mathlib.Decide.{ℕ-discrete, decLt}
+use lib.Dec.{T, eqb, eqb→eq, eqb-refl, ltb}
+use borrow.Author.Tests.{ltb-true}
+use Rattle.model.specs.Tests.{some?, every?, count, has, keepOnly, upFrom, isNone}
+
+-- joined tests
+pub and→ : (a b : Bool) → T (a && b) → T a × T b
+and→ true b t = (tt, t)
+and→ false b t = absurd t
+
+pub →and : (a b : Bool) → T a → T b → T (a && b)
+→and true b p q = q
+→and false b p q = p
+
+pub or→ : (a b : Bool) → T (a || b) → T a ⊎ T b
+or→ true b t = inl tt
+or→ false b t = inr t
+
+pub →or : (a b : Bool) → T a ⊎ T b → T (a || b)
+→or true b d = tt
+→or false b (inl p) = absurd p
+→or false b (inr q) = q
+
+pub or-false : (a b : Bool) → (a || b) ≡ false → (a ≡ false) × (b ≡ false)
+or-false true b e = let z : _≡_ {A = ℕ} 0 1 = cc in absurd (omega arith)
+or-false false b e = (refl, e)
+
+pub →T : (b : Bool) → b ≡ true → T b
+→T b e = rw e tt
+
+pub T→ : (b : Bool) → T b → b ≡ true
+T→ true t = refl
+T→ false t = absurd t
+
+pub not→ : (b : Bool) → (T b → ⊥) → b ≡ false
+not→ true n = absurd (n tt)
+not→ false n = refl
+
+pub clash : {A : Type 0} → true ≡ false → A
+clash e = let z : _≡_ {A = ℕ} 0 1 = cc in absurd (omega arith)
+
+-- two tests that pass together are equal
+pub same-test : (a b : Bool) → (T a → T b) → (T b → T a) → a ≡ b
+same-test true true f g = refl
+same-test true false f g = absurd (f tt)
+same-test false true f g = absurd (g tt)
+same-test false false f g = refl
+
+pub →eqb : (a b : ℕ) → a ≡ b → T (eqb a b)
+→eqb a b e = rw e (eqb-refl b)
+
+-- a statement that holds or fails
+pub T? : (b : Bool) → T b ⊎ (T b → ⊥)
+T? true = inl tt
+T? false = inr (λ t. t)
+
+pub both? : {A B : Type 0} → A ⊎ (A → ⊥) → B ⊎ (B → ⊥) → (A × B) ⊎ (A × B → ⊥)
+both? (inl a) (inl b) = inl (a, b)
+both? (inl a) (inr n) = inr (λ t. n (t .1))
+both? (inr n) d = inr (λ t. n (t .0))
+
+pub ≡? : (a b : ℕ) → (a ≡ b) ⊎ (a ≡ b → ⊥)
+≡? a b = go (ℕ-discrete a b)
+  where
+    go : Dec (a ≡ b) → (a ≡ b) ⊎ (a ≡ b → ⊥)
+    go (yes e) = inl e
+    go (no n) = inr n
+
+pub <? : (a b : ℕ) → (a < b) ⊎ (a < b → ⊥)
+<? a b = go (decLt a b)
+  where
+    go : Dec (a < b) → (a < b) ⊎ (a < b → ⊥)
+    go (yes e) = inl e
+    go (no n) = inr n
+
+-- a number below n that has the property, or none has it
+pub below? : (P : ℕ → Type 0) → ((i : ℕ) → P i ⊎ (P i → ⊥)) → (n : ℕ) → ((i : ℕ) × (i < n) × P i) ⊎ ((i : ℕ) → i < n → P i → ⊥)
+below? P test zero = inr (λ i h p. omega arith)
+below? P test (suc n) = go (test n) (below? P test n)
+  where
+    last : (i : ℕ) → P i → (P n → ⊥) → ((i : ℕ) → i < n → P i → ⊥) → (i ≡ n) ⊎ (i < n) → ⊥
+    last i p np all (inl e) = np (rw e at p)
+    last i p np all (inr h) = all i h p
+
+    go : P n ⊎ (P n → ⊥) → ((i : ℕ) × (i < n) × P i) ⊎ ((i : ℕ) → i < n → P i → ⊥)
+        → ((i : ℕ) × (i < suc n) × P i) ⊎ ((i : ℕ) → i < suc n → P i → ⊥)
+    go d (inl (t)) = inl (t .0, omega arith, t .2)
+    go (inl p) (inr all) = inl (n, omega arith, p)
+    go (inr np) (inr all) = inr (λ i h p. last i p np all (eq-or-lt-of-le (le-of-suc-le-suc h)))
+
+-- some and every
+pub some→ : (n : ℕ) (f : ℕ → Bool) → T (some? n f) → (i : ℕ) × (i < n) × T (f i)
+some→ zero f t = absurd t
+some→ (suc n) f t = go (λ u. some→ n f u) (or→ (some? n f) (f n) t)
+  where
+    go : (T (some? n f) → (i : ℕ) × (i < n) × T (f i)) → T (some? n f) ⊎ T (f n) → (i : ℕ) × (i < suc n) × T (f i)
+    go ih (inl u) = let r = ih u in (r .0, omega arith, r .2)
+    go ih (inr u) = (n, omega arith, u)
+
+pub →some : (n : ℕ) (f : ℕ → Bool) (i : ℕ) → i < n → T (f i) → T (some? n f)
+→some zero f i h u = omega arith
+→some (suc n) f i h u = →or (some? n f) (f n) (go (λ h. →some n f i h u) (eq-or-lt-of-le (le-of-suc-le-suc h)))
+  where
+    go : (i < n → T (some? n f)) → (i ≡ n) ⊎ (i < n) → T (some? n f) ⊎ T (f n)
+    go ih (inl e) = inr (rw e at u)
+    go ih (inr h) = inl (ih h)
+
+pub none-passes : (n : ℕ) (f : ℕ → Bool) → some? n f ≡ false → (i : ℕ) → i < n → f i ≡ false
+none-passes n f e i h = not→ (f i) (λ t. clash (sym (T→ (some? n f) (→some n f i h t)) ∙ e))
+
+pub every→ : (n : ℕ) (f : ℕ → Bool) → T (every? n f) → (i : ℕ) → i < n → T (f i)
+every→ zero f t i h = absurd (omega arith)
+every→ (suc n) f t i h = go (λ h. every→ n f (and→ (every? n f) (f n) t .0) i h) (eq-or-lt-of-le (le-of-suc-le-suc h))
+  where
+    go : (i < n → T (f i)) → (i ≡ n) ⊎ (i < n) → T (f i)
+    go ih (inl e) = rw e (and→ (every? n f) (f n) t .1)
+    go ih (inr h) = ih h
+
+pub →every : (n : ℕ) (f : ℕ → Bool) → ((i : ℕ) → i < n → T (f i)) → T (every? n f)
+→every zero f all = tt
+→every (suc n) f all = →and (every? n f) (f n) (→every n f (λ i h. all i (omega arith))) (all n (omega arith))
+
+-- tests that agree below n count alike
+pub count-same : (n : ℕ) (f g : ℕ → Bool) → ((i : ℕ) → i < n → f i ≡ g i) → count n f ≡ count n g
+count-same zero f g same = refl
+count-same (suc n) f g same = let e = count-same n f g (λ i h. same i (omega arith)) in let d = same n (omega arith) in rw (e, d) refl
+
+-- members of lists
+pub keep→ : (f : ℕ → Bool) (xs : List ℕ) (s : ℕ) → T (has (keepOnly f xs) s) → T (has xs s) × T (f s)
+keep→ f [] s t = absurd t
+keep→ f (x ∷ xs) s t = go (f x) refl (λ u. keep→ f xs s u) t
+  where
+    go : (b : Bool) → f x ≡ b → (T (has (keepOnly f xs) s) → T (has xs s) × T (f s)) → T (has (cond b (x ∷ keepOnly f xs) (keepOnly f xs)) s) → T (has (x ∷ xs) s) × T (f s)
+    go true e ih t = first (or→ (eqb x s) (has (keepOnly f xs) s) t)
+      where
+        first : T (eqb x s) ⊎ T (has (keepOnly f xs) s) → T (has (x ∷ xs) s) × T (f s)
+        first (inl q) = (→or (eqb x s) (has xs s) (inl q), rw (eqb→eq x s q) at (→T (f x) e))
+        first (inr u) = let r = ih u in (→or (eqb x s) (has xs s) (inr (r .0)), r .1)
+    go false e ih t = let r = ih t in (→or (eqb x s) (has xs s) (inr (r .0)), r .1)
+
+pub →keep : (f : ℕ → Bool) (xs : List ℕ) (s : ℕ) → T (has xs s) → T (f s) → T (has (keepOnly f xs) s)
+→keep f [] s t u = t
+→keep f (x ∷ xs) s t u = go (f x) refl (λ v. →keep f xs s v u) (or→ (eqb x s) (has xs s) t)
+  where
+    go : (b : Bool) → f x ≡ b → (T (has xs s) → T (has (keepOnly f xs) s)) → T (eqb x s) ⊎ T (has xs s) → T (has (cond b (x ∷ keepOnly f xs) (keepOnly f xs)) s)
+    go true e ih (inl q) = →or (eqb x s) (has (keepOnly f xs) s) (inl q)
+    go true e ih (inr v) = →or (eqb x s) (has (keepOnly f xs) s) (inr (ih v))
+    go false e ih (inl q) = let d = eqb→eq x s q in clash (sym (T→ (f x) (rw d u)) ∙ e)
+    go false e ih (inr v) = ih v
+
+pub has-upFrom : (i n s : ℕ) → T (has (upFrom i n) s) → s < i + n
+has-upFrom i zero s t = absurd t
+has-upFrom i (suc n) s t = go (λ u. has-upFrom (suc i) n s u) (or→ (eqb i s) (has (upFrom (suc i) n) s) t)
+  where
+    go : (T (has (upFrom (suc i) n) s) → s < suc i + n) → T (eqb i s) ⊎ T (has (upFrom (suc i) n) s) → s < i + suc n
+    go ih (inl e) = omega (arith, eqb→eq i s e)
+    go ih (inr u) = omega (arith, ih u)
+
+pub upFrom-has : (i n s : ℕ) → i ≤ s → s < i + n → T (has (upFrom i n) s)
+upFrom-has i zero s h h′ = omega arith
+upFrom-has i (suc n) s h h′ = →or (eqb i s) (has (upFrom (suc i) n) s) (go (λ h. upFrom-has (suc i) n s h (omega arith)) (eq-or-lt-of-le h))
+  where
+    go : (suc i ≤ s → T (has (upFrom (suc i) n) s)) → (i ≡ s) ⊎ (i < s) → T (eqb i s) ⊎ T (has (upFrom (suc i) n) s)
+    go ih (inl e) = inl (→eqb i s e)
+    go ih (inr h) = inr (ih h)
+
+-- nothing is something
+pub none-some : {B : Type 0} {a : B} {A : Type 0} → none ≡ some a → A
+none-some e = let z : _≡_ {A = ℕ} 0 1 = cc in absurd (omega arith)

@@ -1,0 +1,61 @@
+-- WHAT THE COMMAND ENTRY PROMISES, over the state before, the command's bytes, the answer and the state after. The lengths lent are those of the state
+-- before. The entry's `ensures` cites this record and nothing else.
+use mathlib.Core.Path.{_≡_}
+use mathlib.Core.List.{List, [], _∷_}
+use mathlib.Core.Option.{Option, none, some}
+use Prim.Native.Nat.{ℕ, zero, suc}
+use Rattle.model.specs.declared.answer.Report.{Report}
+use Rattle.model.specs.declared.answer.Answer.{Answer}
+use Rattle.model.specs.declared.answer.Answer.the-variants as answer
+use Rattle.model.specs.declared.command.Command.{Command}
+use Rattle.model.specs.declared.command.Command.the-variants as kind
+use Rattle.model.specs.declared.command.Read.{Read}
+use Rattle.model.specs.declared.command.Read.the-variants as found
+use Rattle.model.specs.Commands.{readAt}
+use Rattle.model.specs.Ledger.{Ledger, LedgerShape, fresh, firstOf, earlyConditions, kindConditions, refusal, effect, step}
+use Rattle.model.specs.Report.{Silent, Reports}
+use Rattle.model.specs.Representation.{State, lentOf, Represents}
+
+-- AN ANSWER'S NUMBER AND VALUES: 0 with S, R, T for an accepted command; a refusal "returns only its number"
+abbrev pub numberOf : Answer → ℕ
+numberOf (answer.Accepted r) = 0
+numberOf (answer.Refused n) = n
+
+abbrev pub valuesOf : Answer → List ℕ
+valuesOf (answer.Accepted r) = r .struck ∷ r .reopened ∷ r .touched ∷ []
+valuesOf (answer.Refused n) = []
+
+-- the answer for a refusal's number, with the report that an accepted command carries
+abbrev pub decided : ℕ → Report → Answer
+decided zero r = answer.Accepted r
+decided (suc n) r = answer.Refused (suc n)
+
+-- the report of what was read: of a command by its kind
+abbrev pub ReportsOf : Read → List ℕ → List ℕ → Report → Type 0
+ReportsOf (found.Command c) before after r = Reports c before after r
+ReportsOf (found.Refused k n) before after r = ⊥
+ReportsOf found.End before after r = ⊥
+
+-- on a state that is the ledger L's: the first condition of the table decides, the report is right, and the state after is the stepped ledger's
+pub record Answered (L : Ledger) (before : State) (bytes : List ℕ) (given : Answer) (after : State) : Type 0 where
+  pub report : Report
+  pub decision : given ≡ decided (refusal L (lentOf before) bytes) report
+  pub reported : refusal L (lentOf before) bytes ≡ 0 → ReportsOf (readAt bytes 0 .read) (before .slots) (after .slots) report
+  pub represents : Represents (step L (lentOf before) bytes) after
+
+-- a kind 1 whose form is right, whatever the memory held: decided by its counts alone, and a board of these counts is made new
+pub record BoardMade (ns : List ℕ) (given : Answer) (after : State) : Type 0 where
+  pub report : Report
+  pub silent : Silent report
+  pub decision : given ≡ decided (firstOf (kindConditions fresh kind.Board ns)) report
+  pub represents : firstOf (kindConditions fresh kind.Board ns) ≡ 0 → Represents (effect fresh kind.Board ns) after
+
+pub record Promise (before : State) (bytes : List ℕ) (given : Answer) (after : State) : Type 0 where
+  -- WHATEVER THE MEMORY HOLDS: 1, 3 and 4 are given on their conditions
+  pub early : (n : ℕ) → firstOf (earlyConditions (lentOf before) bytes) ≡ suc n → given ≡ answer.Refused (suc n)
+  -- "A refusal changes no byte of the buffers and nothing of the value beside them"
+  pub refused : (n : ℕ) → given ≡ answer.Refused n → after ≡ before
+  pub made : firstOf (earlyConditions (lentOf before) bytes) ≡ 0 → readAt bytes 0 .read ≡ found.Command kind.Board
+      → BoardMade (readAt bytes 0 .counts) given after
+  -- WHERE THE STATE IS A LEDGER'S
+  pub answered : (L : Ledger) → LedgerShape L → Represents L before → Answered L before bytes given after

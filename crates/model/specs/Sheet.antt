@@ -1,0 +1,102 @@
+-- THE SHEET: what `berthsheet` writes, from the input's bytes, through the ledger and the open slots ("The sheet program").
+use mathlib.Core.Bool.{cond}
+use mathlib.Core.List.{List, [], _∷_, _++_}
+use Prim.Native.Nat.{ℕ, zero, suc, _+_, _/_, _%_}
+use lib.ListN.{length}
+use lib.Dec.{ltb}
+use Rattle.model.specs.declared.command.Command.{Command}
+use Rattle.model.specs.declared.command.Command.the-variants as kind
+use Rattle.model.specs.declared.command.Read.{Read}
+use Rattle.model.specs.declared.command.Read.the-variants as found
+use Rattle.model.specs.declared.command.Decoded.{Decoded}
+use Rattle.model.specs.Board.{Board}
+use Rattle.model.specs.Tests.{upFrom, keepOnly}
+use Rattle.model.specs.Filter.{in?, openOf}
+use Rattle.model.specs.Commands.{kindOf, readAt}
+use Rattle.model.specs.Ledger.{Ledger, fresh, firstOf, kindConditions, obey}
+use Rattle.model.specs.Report.{struckOf, reopenedOf}
+
+-- a number in decimal, of at most so many digits; no number here has more than four
+abbrev pub digits : ℕ → ℕ → List ℕ
+digits zero n = []
+digits (suc most) n = cond (ltb n 10) [] (digits most (n / 10)) ++ ((48 + n % 10) ∷ [])
+
+abbrev pub decimal : ℕ → List ℕ
+decimal n = digits 4 n
+
+-- numbers, with a space before each
+abbrev pub spaced : List ℕ → List ℕ
+spaced [] = []
+spaced (n ∷ ns) = 32 ∷ decimal n ++ spaced ns
+
+-- a line: a letter, numbers, and byte 10
+abbrev pub line : ℕ → List ℕ → List ℕ
+line letter ns = letter ∷ spaced ns ++ (10 ∷ [])
+
+-- "`a K S R` when accepted, `r K N` when refused"; "a line `c I` per call, followed by a space and number for each open slot, rising"
+abbrev pub acceptedLine : ℕ → ℕ → ℕ → List ℕ
+acceptedLine k s r = line 97 (k ∷ s ∷ r ∷ [])
+
+abbrev pub refusedLine : ℕ → ℕ → List ℕ
+refusedLine k n = line 114 (k ∷ n ∷ [])
+
+abbrev pub callLine : List (List ℕ) → ℕ → List ℕ
+callLine left c = line 99 (c ∷ keepOnly (in? left c) (upFrom 0 32))
+
+-- "the last line is always the three letters `end`"
+abbrev pub endLine : List ℕ
+endLine = 101 ∷ 110 ∷ 100 ∷ 10 ∷ []
+
+abbrev pub callLines : List (List ℕ) → List ℕ → List ℕ
+callLines left [] = []
+callLines left (c ∷ cs) = callLine left c ++ callLines left cs
+
+-- the lines of the board, if there is one
+abbrev pub boardLines : Board → List ℕ
+boardLines B = callLines (openOf B) (upFrom 0 (length (B .counts)))
+
+-- the line of an accepted command, from the boards before and after: only a put and a lift report what they changed
+abbrev pub reportLine : Command → Board → Board → List ℕ
+reportLine kind.Board B B′ = acceptedLine 1 0 0
+reportLine (kind.Head h) B B′ = acceptedLine 2 0 0
+reportLine (kind.Row w) B B′ = acceptedLine 3 0 0
+reportLine kind.Put B B′ = acceptedLine 4 (struckOf B′ (openOf B) (openOf B′)) (reopenedOf B′ (openOf B) (openOf B′))
+reportLine (kind.Lift n) B B′ = acceptedLine 5 (struckOf B′ (openOf B) (openOf B′)) (reopenedOf B′ (openOf B) (openOf B′))
+
+-- the line of a command, from its refusal's number
+abbrev pub decisionLine : ℕ → Command → Board → Board → List ℕ
+decisionLine zero c B B′ = reportLine c B B′
+decisionLine (suc n) c B B′ = refusedLine (kindOf c) (suc n)
+
+-- the refusal of what was read, under the file's numbers or by the command's own conditions
+abbrev pub fileRefusal : Ledger → Read → List ℕ → ℕ
+fileRefusal L (found.Command c) ns = firstOf (kindConditions L c ns)
+fileRefusal L (found.Refused k n) ns = n
+fileRefusal L found.End ns = 0
+
+abbrev pub readLine : ℕ → Read → Board → Board → List ℕ
+readLine n (found.Command c) B B′ = decisionLine n c B B′
+readLine n (found.Refused k m) B B′ = refusedLine k m
+readLine n found.End B B′ = []
+
+-- WHAT A FILE HOLDS: what is read from a place on, to the file's end or the first 3 or 4 ("After 3 or 4 it reads no further"). At most so many commands
+abbrev pub upToRefusal : Decoded → Read → List Decoded → List Decoded
+upToRefusal d (found.Command c) rest = d ∷ rest
+upToRefusal d (found.Refused k n) rest = d ∷ []
+upToRefusal d found.End rest = []
+
+abbrev pub readsFrom : ℕ → List ℕ → ℕ → List Decoded
+readsFrom zero s at = []
+readsFrom (suc most) s at = upToRefusal (readAt s at) (readAt s at .read) (readsFrom most s (readAt s at .next))
+
+-- a line for each, then the board's lines
+abbrev pub linesFrom : Ledger → List Decoded → List ℕ
+linesFrom L [] = boardLines (L .board)
+linesFrom L (d ∷ ds) =
+    let n = fileRefusal L (d .read) (d .counts) in
+    let L′ = obey n L (d .read) (d .counts) in
+    readLine n (d .read) (L .board) (L′ .board) ++ linesFrom L′ ds
+
+-- THE WHOLE OUTPUT. "Input too long gives `r 0 2` and no command is run."
+abbrev pub sheetOf : List ℕ → List ℕ
+sheetOf input = cond (ltb 32768 (length input)) (refusedLine 0 2) (linesFrom fresh (readsFrom (length input) input 0)) ++ endLine
