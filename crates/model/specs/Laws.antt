@@ -2,3 +2,5 @@
 pub mod Tests
 pub mod Theory
 pub mod Filter
+pub mod Shapes
+pub mod Change

@@ -1,0 +1,276 @@
+-- EVERY COMMAND KEEPS THE LEDGER'S SHAPE, whatever its bytes, refused or accepted: what a rule of good shape asks is what the table checks. Assumes nothing.
+use mathlib.Core.Path.{_≡_, refl, sym, ap, _∙_}
+use mathlib.Core.Bool.{Bool, true, false, not, _&&_, _||_, cond}
+use mathlib.Core.List.{List, [], _∷_, _++_}
+use mathlib.Core.Logic.{_≢_, _⊎_, inl, inr}
+use mathlib.Core.Option.{Option, none, some}
+use Prim.Native.Nat.{ℕ, zero, suc, _<_, _≤_, _+_, min}
+use native.Mathlib.Omega.{arith}
+use native.Mathlib.Nat.{eq-or-lt-of-le, le-of-suc-le-suc}
+use native.Mathlib.Decide.{ℕ-discrete}
+use lib.ListN.{length, getD, take, drop, set, replicate, length-set, length-take, length-append, List·getD-append}
+use lib.Seq.{getD-set-same, getD-set-other, getD-take, getD-append-seam, length-take-le}
+use lib.Dec.{T, eqb, ltb, leb}
+use borrow.Author.Tests.{ltb-true, ltb-false, leb-false, eqb-false, eq-eqb}
+use Rattle.model.specs.declared.command.Head.{Head}
+use Rattle.model.specs.declared.command.Row.{Row}
+use Rattle.model.specs.declared.command.Command.{Command}
+use Rattle.model.specs.declared.command.Command.the-variants as kind
+use Rattle.model.specs.declared.command.Read.{Read}
+use Rattle.model.specs.declared.command.Read.the-variants as found
+use Rattle.model.specs.Board.{Rule, Board, callAt, slotAt, InForce, GoodRule, Shape}
+use Rattle.model.specs.Tests.{some?, every?, isNone}
+use Rattle.model.specs.Commands.{isKind, bodyLength, commandAt, countsAt, without, readAt, callsOf, slotsOf}
+use Rattle.model.specs.Ledger.{NumberedRule, Ledger, LedgerShape, Lent, Member, bare, fresh, draftOr, firstOf, badLent, badCounts, badSpare, noBoard, badNumber, notInForce, kindConditions, formConditions, ownConditions, earlyConditions, conditions, refusal, upToZero, withRule, effect, readEffect, obey, step, run}
+use Rattle.model.specs.Laws.Tests.{or-false, none-passes, →every, T→, →T, clash, none-some}
+
+-- A LIST OF CONDITIONS whose first number is 0: none of them holds
+abbrev pub Passed : List (Bool × ℕ) → Type 0
+Passed [] = Unit {0}
+Passed (x ∷ xs) = (x .0 ≡ false) × Passed xs
+
+abbrev pub positive : List (Bool × ℕ) → Bool
+positive [] = true
+positive (x ∷ xs) = ltb 0 (x .1) && positive xs
+
+pub passed : (xs : List (Bool × ℕ)) → T (positive xs) → firstOf xs ≡ 0 → Passed xs
+passed [] t e = tt
+passed (x ∷ xs) t e = go (x .0) (ltb 0 (x .1)) refl t e (λ t e. passed xs t e)
+  where
+    go : (b c : Bool) → ltb 0 (x .1) ≡ c → T (c && positive xs) → cond b (x .1) (firstOf xs) ≡ 0 → (T (positive xs) → firstOf xs ≡ 0 → Passed xs) → (b ≡ false) × Passed xs
+    go true true q t e k = absurd (omega (arith, ltb-true 0 (x .1) q))
+    go false true q t e k = (refl, k t e)
+    go b false q t e k = absurd t
+
+-- a board without rules
+none-there : (n p : ℕ) → _≡_ {A = Option Rule} (getD (replicate n none) p none) none
+none-there zero p = refl
+none-there (suc n) zero = refl
+none-there (suc n) (suc p) = none-there n p
+
+pub bare-none : (ns : List ℕ) (p : ℕ) (r : Rule) → InForce (bare ns) p r → ⊥
+bare-none ns p r f = none-some (sym (none-there 64 p) ∙ f)
+
+pub bare-shape : (ns : List ℕ) → length ns ≤ 32 → ((c : ℕ) → c < length ns → (0 < getD ns c 0) × (getD ns c 0 ≤ 32)) → Shape (bare ns)
+bare-shape ns few each = record { calls = few; counts = each; numbers = refl; rules = λ p r f. absurd (bare-none ns p r f) }
+
+-- a board of good shape with a good rule under a number, or none there
+pub shape-with : (B : Board) (p : ℕ) (o : Option Rule) → Shape B → p < 64 → ((r : Rule) → o ≡ some r → GoodRule (B .counts) r) → Shape (withRule B p o)
+shape-with B p o shape lp good =
+    record {
+      calls = shape .calls;
+      counts = shape .counts;
+      numbers = length-set (B .rules) p o ∙ shape .numbers;
+      rules = λ q r f. go q r f (ℕ-discrete q p);
+    }
+  where
+    go : (q : ℕ) (r : Rule) → getD (set (B .rules) p o) q none ≡ some r → Dec (q ≡ p) → GoodRule (B .counts) r
+    go q r f (yes h) = good r (sym (getD-set-same (B .rules) p o none (omega (arith, shape .numbers))) ∙ (rw h at f))
+    go q r f (no h) = shape .rules q r (sym (getD-set-other (B .rules) p q o none h) ∙ f)
+
+-- what holds of each row and of one more holds of each with that one at the end
+snoc-all : (P : List ℕ → Type 0) (rows : List (List ℕ)) (x : List ℕ) → ((w : ℕ) → w < length rows → P (getD rows w [])) → P x
+    → (w : ℕ) → w < length (rows ++ (x ∷ [])) → P (getD (rows ++ (x ∷ [])) w [])
+snoc-all P [] x old new zero h = new
+snoc-all P [] x old new (suc w) h = absurd (omega arith)
+snoc-all P (y ∷ rows) x old new zero h = old 0 (omega arith)
+snoc-all P (y ∷ rows) x old new (suc w) h = snoc-all P rows x (λ v g. old (suc v) (omega arith)) new w (le-of-suc-le-suc h)
+
+snoc-apart : (rows : List (List ℕ)) (x : List ℕ) → ((v w : ℕ) → v < w → w < length rows → getD rows v [] ≢ getD rows w []) → ((v : ℕ) → v < length rows → getD rows v [] ≢ x)
+    → (v w : ℕ) → v < w → w < length (rows ++ (x ∷ [])) → getD (rows ++ (x ∷ [])) v [] ≢ getD (rows ++ (x ∷ [])) w []
+snoc-apart rows x old new v w vw h =
+    let l : w < length rows + 1 = omega (arith, length-append rows (x ∷ [])) in
+    let hv : v < length rows = omega arith in
+    let ev : getD (rows ++ (x ∷ [])) v [] ≡ getD rows v [] = List·getD-append rows (x ∷ []) [] v hv in
+    go (eq-or-lt-of-le (le-of-suc-le-suc (omega arith))) hv ev
+  where
+    go : (w ≡ length rows) ⊎ (w < length rows) → v < length rows → getD (rows ++ (x ∷ [])) v [] ≡ getD rows v [] → getD (rows ++ (x ∷ [])) v [] ≢ getD (rows ++ (x ∷ [])) w []
+    go (inl e) hv ev q = new v hv (sym ev ∙ q ∙ ap (λ (i : ℕ). getD (rows ++ (x ∷ [])) i []) e ∙ getD-append-seam rows x [] [])
+    go (inr h) hv ev q = old v w vw h (sym ev ∙ q ∙ List·getD-append rows (x ∷ []) [] w h)
+
+-- the counts up to the first 0
+short : (ns : List ℕ) → length (upToZero ns) ≤ length ns
+short [] = omega arith
+short (zero ∷ ns) = omega arith
+short (suc n ∷ ns) = omega (arith, short ns)
+
+in-limits : (ns : List ℕ) → ((i : ℕ) → i < length ns → getD ns i 0 ≤ 32) → (c : ℕ) → c < length (upToZero ns) → (0 < getD (upToZero ns) c 0) × (getD (upToZero ns) c 0 ≤ 32)
+in-limits [] g c h = absurd (omega arith)
+in-limits (zero ∷ ns) g c h = absurd (omega arith)
+in-limits (suc n ∷ ns) g zero h = (omega arith, g 0 (omega arith))
+in-limits (suc n ∷ ns) g (suc c) h = in-limits ns (λ i k. g (suc i) (omega arith)) c (le-of-suc-le-suc h)
+
+-- THE KINDS, each accepted
+module _ (L : Ledger) (shape : LedgerShape L) where
+  lift-shape : (n : ℕ) (ns : List ℕ) → Passed (kindConditions L (kind.Lift n) ns) → LedgerShape (effect L (kind.Lift n) ns)
+  lift-shape n ns q =
+      record {
+        board = shape-with (L .board) n none (shape .board) (omega (arith, ltb-false 63 n (q .1 .0))) (λ r e. none-some e);
+        draft = shape .draft;
+      }
+
+  put-shape : (ns : List ℕ) → Passed (kindConditions L kind.Put ns) → LedgerShape (effect L kind.Put ns)
+  put-shape ns q = go (L .draft) refl (q .1 .0)
+    where
+      go : (o : Option NumberedRule) → L .draft ≡ o → isNone o ≡ false
+          → LedgerShape (record { board = withRule (L .board) (draftOr o .number) (some (draftOr o .rule)); draft = none })
+      go none e i = clash i
+      go (some d) e i =
+          let g = shape .draft d e in
+          record {
+            board = shape-with (L .board) (d .number) (some (d .rule)) (shape .board) (g .0) (λ r h. let z : d .rule ≡ r = cc in rw z at (g .1));
+            draft = λ x h. none-some h;
+          }
+
+  board-shape : (ns : List ℕ) → length ns ≤ 32 → Passed (kindConditions L kind.Board ns) → LedgerShape (effect L kind.Board ns)
+  board-shape ns most q =
+      let e = or-false (eqb (getD ns 0 0) 0 || some? (length ns) (λ i. ltb 32 (getD ns i 0)))
+      (some? (length ns) (λ j. not (eqb (getD ns j 0) 0) && some? j (λ i. eqb (getD ns i 0) 0))) (q .0) .0 in
+      let f = or-false (eqb (getD ns 0 0) 0) (some? (length ns) (λ i. ltb 32 (getD ns i 0))) e .1 in
+      record {
+        board = bare-shape (upToZero ns) (omega (arith, short ns))
+            (in-limits ns (λ i h. ltb-false 32 (getD ns i 0) (none-passes (length ns) (λ i. ltb 32 (getD ns i 0)) f i h)));
+        draft = λ d h. none-some h;
+      }
+
+  head-good : (h : Head) (ns : List ℕ) → Passed (kindConditions L (kind.Head h) ns) → GoodRule (L .board .counts) (record { calls = take (h .arity) (callsOf h); rows = [] })
+  head-good h ns q =
+      let a = h .arity in
+      let cs = callsOf h in
+      let limits = or-false (ltb a 1) (ltb 4 a) (q .1 .1 .0) in
+      let least : 1 ≤ a = ltb-false a 1 (limits .0) in
+      let most : a ≤ 4 = ltb-false 4 a (limits .1) in
+      let len : length (take a cs) ≡ a = length-take-le a cs (omega arith) in
+      record {
+        most = omega arith;
+        least = omega arith;
+        calls = λ k lk.
+            let below : k < a = omega arith in
+            rw (getD-take a cs k 255 below)
+            (leb-false (length (L .board .counts)) (getD cs k 255) (none-passes a (λ k. leb (length (L .board .counts)) (getD cs k 255)) (q .1 .1 .1 .0) k below));
+        apart = λ j k jk lk.
+            let below : k < a = omega arith in
+            rw (getD-take a cs k 255 below, getD-take a cs j 255 (omega arith))
+            (eqb-false (getD cs j 255) (getD cs k 255)
+            (none-passes k (λ j. eqb (getD cs j 255) (getD cs k 255)) (none-passes a (λ k. some? k (λ j. eqb (getD cs j 255) (getD cs k 255))) (q .1 .1 .1 .1 .0) k below) j jk));
+        few = omega arith;
+        width = λ w h. absurd (omega arith);
+        slots = λ w k h. absurd (omega arith);
+        rows = λ v w vw h. absurd (omega arith);
+      }
+
+  head-shape : (h : Head) (ns : List ℕ) → Passed (kindConditions L (kind.Head h) ns) → LedgerShape (effect L (kind.Head h) ns)
+  head-shape h ns q =
+      record {
+        board = shape .board;
+        draft = λ d e.
+            let g : record { number = h .number; rule = record { calls = take (h .arity) (callsOf h); rows = [] } } ≡ d = cc in
+            rw (← g) (omega (arith, ltb-false 63 (h .number) (q .1 .0)), head-good h ns q);
+      }
+
+  -- a draft with one row more
+  row-good : (d : NumberedRule) (x : Row) (ns : List ℕ) → L .draft ≡ some d → Passed (kindConditions L (kind.Row x) ns)
+      → GoodRule (L .board .counts) (record { calls = d .rule .calls; rows = d .rule .rows ++ (take (length (d .rule .calls)) (slotsOf x) ∷ []) })
+  row-good d x ns is q =
+      let r = d .rule in
+      let a = length (r .calls) in
+      let ss = slotsOf x in
+      let g = shape .draft d is .1 in
+      let room : length (r .rows) < 64 = leb-false 64 (length (r .rows)) (rw is at (q .1 .1 .0)) in
+      let on : some? a (λ k. leb (getD (L .board .counts) (callAt r k) 0) (getD ss k 255)) ≡ false = rw is at (q .1 .1 .1 .0) in
+      let new : some? (length (r .rows)) (λ v. every? a (λ k. eqb (slotAt r v k) (getD ss k 255))) ≡ false = rw is at (q .1 .1 .1 .1 .1 .0) in
+      record {
+        most = g .most;
+        least = g .least;
+        calls = g .calls;
+        apart = g .apart;
+        few = omega (arith, length-append (r .rows) (take a ss ∷ []));
+        width = snoc-all (λ (x : List ℕ). length x ≡ a) (r .rows) (take a ss) (g .width) (length-take-le a ss (omega (arith, g .most)));
+        slots = λ w k h h′.
+            snoc-all (λ (x : List ℕ). getD x k 255 < getD (L .board .counts) (callAt r k) 0) (r .rows) (take a ss) (λ w h. g .slots w k h h′)
+            (rw (getD-take a ss k 255 h′)
+            (leb-false (getD (L .board .counts) (callAt r k) 0) (getD ss k 255) (none-passes a (λ k. leb (getD (L .board .counts) (callAt r k) 0) (getD ss k 255)) on k h′)))
+            w h;
+        rows = snoc-apart (r .rows) (take a ss) (g .rows)
+            (λ v h same.
+            clash (sym (T→ (every? a (λ k. eqb (slotAt r v k) (getD ss k 255)))
+            (→every a (λ k. eqb (slotAt r v k) (getD ss k 255)) (λ k h′. →T (eqb (slotAt r v k) (getD ss k 255)) (eq-eqb (slotAt r v k) (getD ss k 255) (rw same (getD-take a ss k 255 h′))))))
+            ∙ none-passes (length (r .rows)) (λ v. every? a (λ k. eqb (slotAt r v k) (getD ss k 255))) new v h));
+      }
+
+  row-shape : (x : Row) (ns : List ℕ) → Passed (kindConditions L (kind.Row x) ns) → LedgerShape (effect L (kind.Row x) ns)
+  row-shape x ns q = go (L .draft) refl (q .1 .0)
+    where
+      grown : Option NumberedRule → NumberedRule
+      grown o = record { number = draftOr o .number; rule = record { calls = draftOr o .rule .calls; rows = draftOr o .rule .rows ++ (take (length (draftOr o .rule .calls)) (slotsOf x) ∷ []) } }
+
+      go : (o : Option NumberedRule) → L .draft ≡ o → isNone o ≡ false → LedgerShape (record { board = L .board; draft = some (grown o) })
+      go none e i = clash i
+      go (some d) e i =
+          record { board = shape .board; draft = λ d′ h. let g : grown (some d) ≡ d′ = cc in rw (← g) (shape .draft d e .0, row-good d x ns e q) }
+
+  -- a command that none of its own conditions refuses
+  pub effect-shape : (c : Command) (ns : List ℕ) → length ns ≤ 32 → firstOf (kindConditions L c ns) ≡ 0 → LedgerShape (effect L c ns)
+  effect-shape kind.Board ns most e = board-shape ns most (passed (kindConditions L kind.Board ns) tt e)
+  effect-shape (kind.Head h) ns most e = head-shape h ns (passed (kindConditions L (kind.Head h) ns) tt e)
+  effect-shape (kind.Row x) ns most e = row-shape x ns (passed (kindConditions L (kind.Row x) ns) tt e)
+  effect-shape kind.Put ns most e = put-shape ns (passed (kindConditions L kind.Put ns) tt e)
+  effect-shape (kind.Lift n) ns most e = lift-shape n ns (passed (kindConditions L (kind.Lift n) ns) tt e)
+
+-- the counts beside what is read are never more than 32
+pub counts-most : (s : List ℕ) (at : ℕ) → length (readAt s at .counts) ≤ 32
+counts-most s at = go (leb (length s) at) (isKind (getD s at 0)) (leb (at + 1 + bodyLength (getD s at 0)) (length s)) (eqb (getD s at 0) 1)
+  where
+    taken : (b : Bool) → length (cond b (take 32 (drop (at + 1) s)) (replicate 32 0)) ≤ 32
+    taken true = omega (arith, length-take 32 (drop (at + 1) s))
+    taken false = omega arith
+
+    go : (a b c d : Bool)
+        → length ((cond a (without found.End at)
+        (cond b
+        (cond c
+        (record { read = found.Command (commandAt s (getD s at 0) (at + 1)); counts = cond d (take 32 (drop (at + 1) s)) (replicate 32 0); next = at + 1 + bodyLength (getD s at 0) })
+        (without (found.Refused (getD s at 0) 4) at))
+        (without (found.Refused (getD s at 0) 3) at))) .counts) ≤ 32
+    go true b c d = omega arith
+    go false true true d = taken d
+    go false true false d = omega arith
+    go false false c d = omega arith
+
+-- a list of conditions that is passed is passed in both its parts
+pub first-append : (xs ys : List (Bool × ℕ)) → T (positive xs) → firstOf (xs ++ ys) ≡ 0 → (firstOf xs ≡ 0) × (firstOf ys ≡ 0)
+first-append [] ys t e = (refl, e)
+first-append (x ∷ xs) ys t e = go (x .0) (ltb 0 (x .1)) refl t e (λ t e. first-append xs ys t e)
+  where
+    go : (b c : Bool) → ltb 0 (x .1) ≡ c → T (c && positive xs) → cond b (x .1) (firstOf (xs ++ ys)) ≡ 0
+        → (T (positive xs) → firstOf (xs ++ ys) ≡ 0 → (firstOf xs ≡ 0) × (firstOf ys ≡ 0)) → (cond b (x .1) (firstOf xs) ≡ 0) × (firstOf ys ≡ 0)
+    go true true q t e k = absurd (omega (arith, ltb-true 0 (x .1) q))
+    go false true q t e k = k t e
+    go b false q t e k = absurd t
+
+-- EVERY COMMAND, from its bytes
+pub shape-step : (L : Ledger) (lent : Lent) (bytes : List ℕ) → LedgerShape L → LedgerShape (step L lent bytes)
+shape-step L lent bytes shape = go (readAt bytes 0 .read) (counts-most bytes 0) (refusal L lent bytes) refl
+  where
+    ns : List ℕ
+    ns = readAt bytes 0 .counts
+
+    own : Read → ℕ
+    own r = firstOf ((badLent lent, 1) ∷ formConditions r (ltb (readAt bytes 0 .next) (length bytes)) ++ ownConditions L r ns)
+
+    go : (r : Read) → length ns ≤ 32 → (n : ℕ) → own r ≡ n → LedgerShape (obey n L r ns)
+    go (found.Command c) most zero e =
+        effect-shape L shape c ns most (first-append ((badLent lent, 1) ∷ (ltb (readAt bytes 0 .next) (length bytes), 4) ∷ []) (kindConditions L c ns) tt e .1)
+    go (found.Command c) most (suc n) e = shape
+    go (found.Refused k m) most zero e = shape
+    go (found.Refused k m) most (suc n) e = shape
+    go found.End most zero e = shape
+    go found.End most (suc n) e = shape
+
+pub shape-fresh : LedgerShape fresh
+shape-fresh = record { board = bare-shape [] (omega arith) (λ c h. absurd (omega arith)); draft = λ d h. none-some h }
+
+-- and every list of them
+pub shape-run : (L : Ledger) (ms : List Member) → LedgerShape L → LedgerShape (run L ms)
+shape-run L [] shape = shape
+shape-run L (m ∷ ms) shape = shape-run (step L (m .lent) (m .bytes)) ms (shape-step L (m .lent) (m .bytes) shape)
