@@ -32,17 +32,55 @@ pub struct Value {
     pub draft: Draft,
 }
 
+// The row bytes that the host lends: 4 for each of 64 rows of each of 64 rules.
+pub const ROWS: usize = 16384;
+
+// The killer bytes that it lends: one for each row of each rule.
+pub const KILLERS: usize = 4096;
+
+// The slot bytes that it lends: one for each of 32 slots of each of 32 calls.
+pub const SLOTS: usize = 1024;
+
+impl Heads {
+    // No calls, and no rule in force.
+    pub fn fresh() -> Self
+        ensures { λ r. ⌜ (r .counts ≡ replicate 32 0) × (r .arity ≡ replicate 64 0) × (r .calls ≡ replicate 256 255) × (r .lengths ≡ replicate 64 0) ⌝ }
+    {
+        Self {
+            counts: [0; 32],
+            arity: [0; 64],
+            calls: [255; 256],
+            lengths: [0; 64],
+        }
+    }
+}
+
 impl Draft {
     // No draft.
+    pub const EMPTY: Draft = Draft {
+        number: 255,
+        arity: 0,
+        calls: [255; 4],
+        length: 0,
+        rows: [255; 256],
+    };
+
     pub fn empty() -> Self
         ensures { λ r. ⌜ (r .number ≡ 255) × (r .arity ≡ 0) × (r .calls ≡ replicate 4 255) × (r .length ≡ 0) × (r .rows ≡ replicate 256 255) ⌝ }
     {
+        Self::EMPTY
+    }
+}
+
+impl Value {
+    // The value before the first command.
+    pub fn fresh() -> Self
+        ensures heads { λ r. ⌜ (r .heads .counts ≡ replicate 32 0) × (r .heads .arity ≡ replicate 64 0) × (r .heads .calls ≡ replicate 256 255) × (r .heads .lengths ≡ replicate 64 0) ⌝ }
+        ensures draft { λ r. ⌜ (r .draft .number ≡ 255) × (r .draft .arity ≡ 0) × (r .draft .calls ≡ replicate 4 255) × (r .draft .length ≡ 0) × (r .draft .rows ≡ replicate 256 255) ⌝ }
+    {
         Self {
-            number: 255,
-            arity: 0,
-            calls: [255; 4],
-            length: 0,
-            rows: [255; 256],
+            heads: Heads::fresh(),
+            draft: Draft::empty(),
         }
     }
 }
