@@ -4,3 +4,5 @@ pub mod Theory
 pub mod Filter
 pub mod Shapes
 pub mod Change
+pub mod Joined
+pub mod Fresh

@@ -37,13 +37,13 @@ module _ (B : Board) (r : Rule) where
       (→and (counts? B r k) (eqb (callAt r k) c && eqb (slotAt r w k) s) (h .counts)
       (→and (eqb (callAt r k) c) (eqb (slotAt r w k) s) (→eqb (callAt r k) c (h .call)) (→eqb (slotAt r w k) s (h .slot))))
 
-  onCall→ : (c : ℕ) → T (onCall? B r c) → OnCall B r c
+  pub onCall→ : (c : ℕ) → T (onCall? B r c) → OnCall B r c
   onCall→ c t =
       let u = some→ (length (r .calls)) (λ k. counts? B r k && eqb (callAt r k) c) t in
       let b = and→ (counts? B r (u .0)) (eqb (callAt r (u .0)) c) (u .2) in
       record { column = u .0; counts = b .0; call = eqb→eq (callAt r (u .0)) c (b .1) }
 
-  →onCall : (c : ℕ) → OnCall B r c → T (onCall? B r c)
+  pub →onCall : (c : ℕ) → OnCall B r c → T (onCall? B r c)
   →onCall c o =
       let k = o .column in
       →some (length (r .calls)) (λ k. counts? B r k && eqb (callAt r k) c) k (counts-below B r k (o .counts))

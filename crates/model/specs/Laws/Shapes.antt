@@ -43,7 +43,7 @@ passed (x ∷ xs) t e = go (x .0) (ltb 0 (x .1)) refl t e (λ t e. passed xs t e
     go b false q t e k = absurd t
 
 -- a board without rules
-none-there : (n p : ℕ) → _≡_ {A = Option Rule} (getD (replicate n none) p none) none
+pub none-there : (n p : ℕ) → _≡_ {A = Option Rule} (getD (replicate n none) p none) none
 none-there zero p = refl
 none-there (suc n) zero = refl
 none-there (suc n) (suc p) = none-there n p

@@ -6,8 +6,8 @@ use native.Mathlib.Omega.{arith}
 use lib.ListN.{length, take, drop, length-set, length-drop}
 use lib.Seq.{take-suc, take-suc-set, getD-drop, take-all}
 use borrow.Author.Tests.{ne-eqb}
-use Rattle.model.proofs.command.counts_at.Statement.{statement}
-use Rattle.model.proofs.command.counts_at.Tie as tie
+use Rattle.decode.proofs.counts_at.Statement.{statement}
+use Rattle.decode.proofs.counts_at.Tie as tie
 
 abbrev Inv-loop : tie.InvT-loop
 Inv-loop s k b counts₀ i₀ counts i =

@@ -5,9 +5,9 @@ use Prim.Native.Nat.{ℕ}
 use native.Mathlib.Omega.{arith}
 use lib.Dec.{leb}
 use borrow.Author.Tests.{leb-true}
 use Rattle.model.specs.Commands.{isKind}
-use Rattle.model.proofs.command.command_at.Statement.{statement}
-use Rattle.model.proofs.command.command_at.Tie as tie
+use Rattle.decode.proofs.command_at.Statement.{statement}
+use Rattle.decode.proofs.command_at.Tie as tie
 
 last-kind : (k : ℕ) → isKind k ≡ true → (((Unit {0} × (k ≡ 1 → ⊥)) × (k ≡ 2 → ⊥)) × (k ≡ 3 → ⊥)) × (k ≡ 4 → ⊥) → k ≡ 5
 last-kind k is rest =

@@ -1,7 +1,7 @@
 -- The code's two tests are the definition's, in its order.
 use borrow.Author.Tests.{le-leb, lt-leb}
-use Rattle.model.proofs.command.is_kind.Statement.{statement}
-use Rattle.model.proofs.command.is_kind.Tie as tie
+use Rattle.decode.proofs.is_kind.Statement.{statement}
+use Rattle.decode.proofs.is_kind.Tie as tie
 
 returns : tie.Need-returns
 returns c = simp (le-leb _ _ (c .if1 .taken))

@@ -6,9 +6,9 @@ use native.Mathlib.Omega.{arith}
 use lib.ListN.{length, getD}
 use borrow.Author.Needs.{needs}
 use borrow.Author.Tests.{le-leb, lt-leb, not-true, not-false}
 use Rattle.model.specs.Commands.{bodyLength}
-use Rattle.model.proofs.command.decode.Statement.{statement}
-use Rattle.model.proofs.command.decode.Tie as tie
+use Rattle.decode.proofs.decode.Statement.{statement}
+use Rattle.decode.proofs.decode.Tie as tie
 
 -- what a callee's answer says of its definition, where the code goes on
 passed : {answer meant : Bool} → answer ≡ meant → not answer ≡ false → meant ≡ true

@@ -1,7 +1,7 @@
 -- Each arm's kind picks its case of the definition; in the last arm every test of the definition fails.
 use borrow.Author.Tests.{ne-eqb}
-use Rattle.model.proofs.command.body_length.Statement.{statement}
-use Rattle.model.proofs.command.body_length.Tie as tie
+use Rattle.decode.proofs.body_length.Statement.{statement}
+use Rattle.decode.proofs.body_length.Tie as tie
 
 returns : tie.Need-returns
 returns c = simp (c .match .keys1)

@@ -1,0 +1,106 @@
+-- A BOARD WITHOUT RULES IS STORED by its counts alone: heads, rows and killers empty, every slot of the board open. The fresh state is one of them.
+-- Assumes nothing.
+use mathlib.Core.Path.{_≡_, refl, sym, ap, _∙_}
+use mathlib.Core.List.{List, []}
+use mathlib.Core.Logic.{_⊎_, inl, inr}
+use mathlib.Core.Option.{Option, none, some}
+use Prim.Native.Nat.{ℕ, _+_, _*_, _≤_, _<_}
+use native.Mathlib.Omega.{arith}
+use lib.ListN.{length, getD, replicate, length-replicate, getD-replicate}
+use Rattle.model.specs.declared.value.Heads.{Heads}
+use Rattle.model.specs.Board.{Rule, Board, InForce, OnBoard, Viable, Shape, callAt, slotAt}
+use Rattle.model.specs.Records.{Recorded}
+use Rattle.model.specs.Ledger.{Ledger, bare, fresh}
+use Rattle.model.specs.Report.{markOf}
+use Rattle.model.specs.Representation.{ruleOr, ruleAt, killerOf, Headed, RowBytes, Stored, Drafted, Represents, freshHeads, emptyDraft, freshState}
+use Rattle.model.specs.Laws.Tests.{<?}
+use Rattle.model.specs.Laws.Theory.{open-viable, free-call}
+use Rattle.model.specs.Laws.Shapes.{none-there, bare-none, shape-fresh}
+use Rattle.model.specs.Laws.Change.{on-range}
+
+-- n bytes, each of them v
+pub record Filled (n v : ℕ) (l : List ℕ) : Type 0 where
+  pub size : length l ≡ n
+  pub all : (j : ℕ) → j < n → getD l j 0 ≡ v
+
+pub filled : (n v : ℕ) → Filled n v (replicate n v)
+filled n v = record { size = length-replicate n v; all = λ j h. getD-replicate n j v 0 h }
+
+module _ (ns : List ℕ) (shape : Shape (bare ns)) where
+  no-rule : (p : ℕ) → ruleAt (bare ns) p ≡ ruleOr none
+  no-rule p = ap ruleOr (none-there 64 p)
+
+  pub bare-headed : (h : Heads) → length (h .counts) ≡ 32 → ((c : ℕ) → c < 32 → getD (h .counts) c 0 ≡ getD ns c 0)
+      → Filled 64 0 (h .arity) → Filled 256 255 (h .calls) → Filled 64 0 (h .lengths) → Headed (bare ns) h
+  bare-headed h size counts fa fc fl =
+      record {
+        counts-size = size;
+        arity-size = fa .size;
+        calls-size = fc .size;
+        lengths-size = fl .size;
+        counts = counts;
+        arity = λ p lp. fa .all p lp ∙ sym (ap (λ (r : Rule). length (r .calls)) (no-rule p));
+        calls = λ p k lp lk. fc .all (4 * p + k) (omega arith) ∙ sym (ap (λ (r : Rule). callAt r k) (no-rule p));
+        lengths = λ p lp. fl .all p lp ∙ sym (ap (λ (r : Rule). length (r .rows)) (no-rule p));
+      }
+
+  pub bare-rows : (rows : List ℕ) → Filled 16384 255 rows → RowBytes (bare ns) rows
+  bare-rows rows fr =
+      record { rows-size = fr .size; bytes = λ p w k lp lw lk. fr .all (256 * p + 4 * w + k) (omega arith) ∙ sym (ap (λ (r : Rule). slotAt r w k) (no-rule p)) }
+
+  module _ (slots : List ℕ) (opened : (c s : ℕ) → OnBoard (bare ns) c s → markOf slots c s ≡ 255)
+      (off : (c s : ℕ) → c < 32 → s < 32 → (OnBoard (bare ns) c s → ⊥) → markOf slots c s ≡ 254) where
+    bare-recorded : (killer : ℕ → ℕ → ℕ) → Recorded (bare ns) (markOf slots) killer
+    bare-recorded killer =
+        record {
+          sound = record {
+            either = λ c s on. inl (opened c s on);
+            grounded = λ c s h. let lt = h .1 in absurd (omega (arith, opened c s (h .0)));
+            killers = λ p r f. absurd (bare-none ns p r f);
+          };
+          self = record { slots = λ c s o. o .0; support = λ c s o p r f. absurd (bare-none ns p r f) };
+          alive = λ p r f. absurd (bare-none ns p r f);
+        }
+
+    bare-open : (c s : ℕ) → c < 32 → s < 32 → markOf slots c s ≡ 255 → OnBoard (bare ns) c s
+    bare-open c s lc ls e = go (<? s (getD ns c 0))
+      where
+        go : OnBoard (bare ns) c s ⊎ (OnBoard (bare ns) c s → ⊥) → OnBoard (bare ns) c s
+        go (inl on) = on
+        go (inr n) = absurd (omega (arith, off c s lc ls n))
+
+    pub bare-stored : (h : Heads) (rows killers : List ℕ) → Headed (bare ns) h → Filled 16384 255 rows → Filled 4096 255 killers → length slots ≡ 1024
+        → Stored (bare ns) h rows killers slots
+    bare-stored h rows killers headed fr fk size =
+        record {
+          headed = headed;
+          row-bytes = bare-rows rows fr;
+          killers-size = fk .size;
+          spare = λ p w lp lw le. fk .all (64 * p + w) (omega arith);
+          slots-size = size;
+          off = off;
+          viable = λ c s lc ls. (
+            λ e. free-call (bare ns) c (λ p r f o. bare-none ns p r f) s (bare-open c s lc ls e),
+            λ v. opened c s (v .self .slots c s (v .has)),
+          );
+          recorded = bare-recorded (killerOf killers);
+        }
+
+-- THE FRESH VALUE AND BUFFERS represent the fresh ledger
+pub fresh-represents : Represents fresh freshState
+fresh-represents =
+    record {
+      stored = bare-stored [] (shape-fresh .board) (replicate 1024 254) (λ c s on. absurd (omega arith)) (λ c s lc ls n. filled 1024 254 .all (32 * c + s) (omega arith))
+          freshHeads (replicate 16384 255) (replicate 4096 255)
+          (bare-headed [] (shape-fresh .board) freshHeads refl (λ c lc. filled 32 0 .all c lc) (filled 64 0) (filled 256 255) (filled 64 0))
+          (filled 16384 255) (filled 4096 255) (filled 1024 254 .size);
+      drafted = record {
+        calls-size = refl;
+        rows-size = refl;
+        number = refl;
+        arity = refl;
+        calls = λ k lk. filled 4 255 .all k lk;
+        length-is = refl;
+        rows = λ w k lw lk. filled 256 255 .all (4 * w + k) (omega arith);
+      };
+    }
