@@ -6,3 +6,4 @@ pub mod Shapes
 pub mod Change
 pub mod Joined
 pub mod Fresh
+pub mod Lists

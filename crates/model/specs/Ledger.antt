@@ -166,11 +166,18 @@ obey (suc n) L r ns = L
 abbrev pub step : Ledger → Lent → List ℕ → Ledger
 step L lent bytes = obey (refusal L lent bytes) L (readAt bytes 0 .read) (readAt bytes 0 .counts)
 
--- a command of a list, as the ledger is fed it; and the run of a list
+-- the ledger after a list of members of any type, each with its effect
+abbrev pub ledgerAfter : {M : Type 0} → (Ledger → M → Ledger) → Ledger → List M → Ledger
+ledgerAfter next L [] = L
+ledgerAfter next L (m ∷ ms) = ledgerAfter next (next L m) ms
+
+-- a command of a list, as the ledger is fed it; and the run of a list of them
 pub record Member : Type 0 where
   pub bytes : List ℕ
   pub lent : Lent
 
+abbrev pub stepBy : Ledger → Member → Ledger
+stepBy L m = step L (m .lent) (m .bytes)
+
 abbrev pub run : Ledger → List Member → Ledger
-run L [] = L
-run L (m ∷ ms) = run (step L (m .lent) (m .bytes)) ms
+run L ms = ledgerAfter stepBy L ms

@@ -9,4 +9,5 @@ pub mod Representation
 pub mod Promise
 pub mod Questions
 pub mod Sheet
+pub mod Lists
 pub mod Laws

@@ -21,7 +21,7 @@ use Rattle.model.specs.declared.command.Read.the-variants as found
 use Rattle.model.specs.Board.{Rule, Board, callAt, slotAt, InForce, GoodRule, Shape}
 use Rattle.model.specs.Tests.{some?, every?, isNone}
 use Rattle.model.specs.Commands.{isKind, bodyLength, commandAt, countsAt, without, readAt, callsOf, slotsOf}
-use Rattle.model.specs.Ledger.{NumberedRule, Ledger, LedgerShape, Lent, Member, bare, fresh, draftOr, firstOf, badLent, badCounts, badSpare, noBoard, badNumber, notInForce, kindConditions, formConditions, ownConditions, earlyConditions, conditions, refusal, upToZero, withRule, effect, readEffect, obey, step, run}
+use Rattle.model.specs.Ledger.{NumberedRule, Ledger, LedgerShape, Lent, Member, bare, fresh, draftOr, firstOf, badLent, badCounts, badSpare, noBoard, badNumber, notInForce, kindConditions, formConditions, ownConditions, earlyConditions, conditions, refusal, upToZero, withRule, effect, readEffect, obey, step, stepBy, ledgerAfter, run}
 use Rattle.model.specs.Laws.Tests.{or-false, none-passes, →every, T→, →T, clash, none-some}
 
 -- A LIST OF CONDITIONS whose first number is 0: none of them holds
