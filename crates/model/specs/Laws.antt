@@ -7,3 +7,4 @@ pub mod Change
 pub mod Joined
 pub mod Fresh
 pub mod Lists
+pub mod Samples

@@ -10,4 +10,5 @@ pub mod Promise
 pub mod Questions
 pub mod Sheet
 pub mod Lists
+pub mod Samples
 pub mod Laws

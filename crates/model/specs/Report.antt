@@ -10,7 +10,7 @@ use Rattle.model.specs.declared.command.Command.{Command}
 use Rattle.model.specs.declared.command.Command.the-variants as kind
 use Rattle.model.specs.Board.{Board}
 use Rattle.model.specs.Tests.{count}
-use Rattle.model.specs.Filter.{in?}
+use Rattle.model.specs.Filter.{in?, openOf}
 
 -- how many slots pass a test: 32 calls of 32 slots, in the order of their bytes
 abbrev pub slotCount : (ℕ → ℕ → Bool) → ℕ
@@ -45,6 +45,21 @@ struckOf B left left′ = slotCount λ c s. in? left c s && closed? B left′ c 
 
 abbrev pub reopenedOf : Board → List (List ℕ) → List (List ℕ) → ℕ
 reopenedOf B left left′ = slotCount λ c s. closed? B left c s && in? left′ c s
+
+-- S and R of an accepted command, from the boards before and after
+abbrev pub struckBy : Command → Board → Board → ℕ
+struckBy kind.Board B B′ = 0
+struckBy (kind.Head h) B B′ = 0
+struckBy (kind.Row w) B B′ = 0
+struckBy kind.Put B B′ = struckOf B′ (openOf B) (openOf B′)
+struckBy (kind.Lift n) B B′ = struckOf B′ (openOf B) (openOf B′)
+
+abbrev pub reopenedBy : Command → Board → Board → ℕ
+reopenedBy kind.Board B B′ = 0
+reopenedBy (kind.Head h) B B′ = 0
+reopenedBy (kind.Row w) B B′ = 0
+reopenedBy kind.Put B B′ = reopenedOf B′ (openOf B) (openOf B′)
+reopenedBy (kind.Lift n) B B′ = reopenedOf B′ (openOf B) (openOf B′)
 
 -- "Kind 1, and each kind that only writes the draft, reports 0, 0, 0."
 pub record Silent (r : Report) : Type 0 where

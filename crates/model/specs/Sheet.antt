@@ -5,7 +5,6 @@ use Prim.Native.Nat.{ℕ, zero, suc, _+_, _/_, _%_}
 use lib.ListN.{length}
 use lib.Dec.{ltb}
 use Rattle.model.specs.declared.command.Command.{Command}
-use Rattle.model.specs.declared.command.Command.the-variants as kind
 use Rattle.model.specs.declared.command.Read.{Read}
 use Rattle.model.specs.declared.command.Read.the-variants as found
 use Rattle.model.specs.declared.command.Decoded.{Decoded}
@@ -14,7 +13,7 @@ use Rattle.model.specs.Tests.{upFrom, keepOnly}
 use Rattle.model.specs.Filter.{in?, openOf}
 use Rattle.model.specs.Commands.{kindOf, readAt}
 use Rattle.model.specs.Ledger.{Ledger, fresh, firstOf, kindConditions, obey}
-use Rattle.model.specs.Report.{struckOf, reopenedOf}
+use Rattle.model.specs.Report.{struckBy, reopenedBy}
 
 -- a number in decimal, of at most so many digits; no number here has more than four
 abbrev pub digits : ℕ → ℕ → List ℕ
@@ -55,17 +54,9 @@ callLines left (c ∷ cs) = callLine left c ++ callLines left cs
 abbrev pub boardLines : Board → List ℕ
 boardLines B = callLines (openOf B) (upFrom 0 (length (B .counts)))
 
--- the line of an accepted command, from the boards before and after: only a put and a lift report what they changed
-abbrev pub reportLine : Command → Board → Board → List ℕ
-reportLine kind.Board B B′ = acceptedLine 1 0 0
-reportLine (kind.Head h) B B′ = acceptedLine 2 0 0
-reportLine (kind.Row w) B B′ = acceptedLine 3 0 0
-reportLine kind.Put B B′ = acceptedLine 4 (struckOf B′ (openOf B) (openOf B′)) (reopenedOf B′ (openOf B) (openOf B′))
-reportLine (kind.Lift n) B B′ = acceptedLine 5 (struckOf B′ (openOf B) (openOf B′)) (reopenedOf B′ (openOf B) (openOf B′))
-
--- the line of a command, from its refusal's number
+-- the line of a command, from its refusal's number and the boards before and after
 abbrev pub decisionLine : ℕ → Command → Board → Board → List ℕ
-decisionLine zero c B B′ = reportLine c B B′
+decisionLine zero c B B′ = acceptedLine (kindOf c) (struckBy c B B′) (reopenedBy c B B′)
 decisionLine (suc n) c B B′ = refusedLine (kindOf c) (suc n)
 
 -- the refusal of what was read, under the file's numbers or by the command's own conditions

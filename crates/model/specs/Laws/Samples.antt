@@ -1,0 +1,23 @@
+-- THE STARRED BOARDS FOLLOW FROM THE DEFINITIONS: one computation over the list of them, and the filter's law. Assumes nothing.
+use mathlib.Core.Path.{_≡_, refl, ap}
+use mathlib.Core.List.{List, [], _∷_, map}
+use Rattle.model.specs.Board.{counts?}
+use Rattle.model.specs.Sheet.{sheetOf}
+use Rattle.model.specs.Samples.{Outcome, Sample, outcomeOf, ledgerLast, Right, AllRight, samples, p4Input, p4Output}
+use Rattle.model.specs.Laws.Filter.{found-viable}
+
+right : (x : Sample) → outcomeOf x ≡ x .outcome → Right x
+right x e = record { outcome = e; viable = λ c s. rw (← ap (λ (o : Outcome). o .left) e) (found-viable (ledgerLast x .board) c s) }
+
+all-right : (xs : List Sample) → map outcomeOf xs ≡ map (λ (x : Sample). x .outcome) xs → AllRight xs
+all-right [] e = tt
+all-right (x ∷ xs) e = (right x (cc), all-right xs (cc))
+
+pub samples-right : AllRight samples
+unfolding counts?
+samples-right = all-right samples refl
+
+-- the worked session's sheet, byte for byte
+pub p4-sheet : sheetOf p4Input ≡ p4Output
+unfolding counts?
+p4-sheet = refl

@@ -1,0 +1,208 @@
+-- THE STARRED SAMPLE BOARDS P1 TO P12, as commands' bytes, with what document 01 says of the last one of each.
+use mathlib.Core.List.{List, [], _∷_, _++_, map}
+use mathlib.Core.Logic.{_↔_}
+use mathlib.Core.Path.{_≡_}
+use Prim.Native.Nat.{ℕ, _-_, _/_, _%_}
+use lib.ListN.{length, take, replicate}
+use lib.Dec.{T}
+use Rattle.model.specs.declared.command.Command.{Command}
+use Rattle.model.specs.declared.command.Read.{Read}
+use Rattle.model.specs.declared.command.Read.the-variants as found
+use Rattle.model.specs.Board.{Board, Viable}
+use Rattle.model.specs.Tests.{upFrom}
+use Rattle.model.specs.Filter.{in?, openOf}
+use Rattle.model.specs.Commands.{readAt}
+use Rattle.model.specs.Ledger.{Ledger, Lent, Member, fresh, refusal, step, run}
+use Rattle.model.specs.Report.{struckBy, reopenedBy}
+
+-- a command's bytes: fields to the kind's length, the rest 0 or 255
+abbrev pub boardBytes : List ℕ → List ℕ
+boardBytes counts = 1 ∷ counts ++ replicate (32 - length counts) 0
+
+abbrev pub spared : List ℕ → List ℕ
+spared fields = fields ++ replicate (4 - length fields) 255
+
+abbrev pub headBytes : ℕ → List ℕ → List ℕ
+headBytes number calls = 2 ∷ number ∷ length calls ∷ spared calls
+
+abbrev pub rowBytes : List ℕ → List ℕ
+rowBytes slots = 3 ∷ spared slots
+
+abbrev pub putBytes : List ℕ
+putBytes = 4 ∷ []
+
+abbrev pub liftBytes : ℕ → List ℕ
+liftBytes number = 5 ∷ number ∷ []
+
+-- the lengths of what is lent, right
+abbrev pub lengths : Lent
+lengths = record { rows = 16384; killers = 4096; slots = 1024 }
+
+abbrev pub member : List ℕ → Member
+member bytes = record { bytes = bytes; lent = lengths }
+
+abbrev pub ledgerOf : List (List ℕ) → Ledger
+ledgerOf commands = run fresh (map member commands)
+
+-- what document 01 says of a sample's last command: its refusal or 0, S, R, and the open slots of each call after it
+pub record Outcome : Type 0 where
+  pub refused : ℕ
+  pub struck : ℕ
+  pub reopened : ℕ
+  pub left : List (List ℕ)
+
+pub record Sample : Type 0 where
+  pub before : List (List ℕ)
+  pub last : List ℕ
+  pub outcome : Outcome
+
+-- S and R of what was read
+abbrev pub struckByRead : Read → Board → Board → ℕ
+struckByRead (found.Command c) B B′ = struckBy c B B′
+struckByRead (found.Refused k n) B B′ = 0
+struckByRead found.End B B′ = 0
+
+abbrev pub reopenedByRead : Read → Board → Board → ℕ
+reopenedByRead (found.Command c) B B′ = reopenedBy c B B′
+reopenedByRead (found.Refused k n) B B′ = 0
+reopenedByRead found.End B B′ = 0
+
+-- what the definitions give
+abbrev pub ledgerBefore : Sample → Ledger
+ledgerBefore x = ledgerOf (x .before)
+
+abbrev pub ledgerLast : Sample → Ledger
+ledgerLast x = step (ledgerBefore x) lengths (x .last)
+
+abbrev pub outcomeOf : Sample → Outcome
+outcomeOf x =
+    record {
+      refused = refusal (ledgerBefore x) lengths (x .last);
+      struck = struckByRead (readAt (x .last) 0 .read) (ledgerBefore x .board) (ledgerLast x .board);
+      reopened = reopenedByRead (readAt (x .last) 0 .read) (ledgerBefore x .board) (ledgerLast x .board);
+      left = openOf (ledgerLast x .board);
+    }
+
+-- what is shown of a sample: its outcome, and that its open slots are the viable ones
+pub record Right (x : Sample) : Type 0 where
+  pub outcome : outcomeOf x ≡ x .outcome
+  pub viable : (c s : ℕ) → T (in? (x .outcome .left) c s) ↔ Viable (ledgerLast x .board) c s
+
+abbrev pub AllRight : List Sample → Type 0
+AllRight [] = Unit {0}
+AllRight (x ∷ xs) = Right x × AllRight xs
+
+-- P1, P2, P3: counts 3, 3, 2; rule 0 on calls 0, 1; then rule 1 on calls 1, 2; then lift rule 0
+abbrev pub p1Before : List (List ℕ)
+p1Before =
+    boardBytes (3 ∷ 3 ∷ 2 ∷ []) ∷ headBytes 0 (0 ∷ 1 ∷ []) ∷ rowBytes (0 ∷ 1 ∷ []) ∷ rowBytes (0 ∷ 2 ∷ []) ∷ rowBytes (1 ∷ 2 ∷ []) ∷ []
+
+abbrev pub p2Before : List (List ℕ)
+p2Before = p1Before ++ (putBytes ∷ headBytes 1 (1 ∷ 2 ∷ []) ∷ rowBytes (1 ∷ 0 ∷ []) ∷ rowBytes (0 ∷ 1 ∷ []) ∷ [])
+
+abbrev pub p3Before : List (List ℕ)
+p3Before = p2Before ++ (putBytes ∷ [])
+
+abbrev pub p1 : Sample
+p1 = record { before = p1Before; last = putBytes; outcome = record { refused = 0; struck = 2; reopened = 0; left = (0 ∷ 1 ∷ []) ∷ (1 ∷ 2 ∷ []) ∷ (0 ∷ 1 ∷ []) ∷ [] } }
+
+abbrev pub p2 : Sample
+p2 = record { before = p2Before; last = putBytes; outcome = record { refused = 0; struck = 3; reopened = 0; left = (0 ∷ []) ∷ (1 ∷ []) ∷ (0 ∷ []) ∷ [] } }
+
+abbrev pub p3 : Sample
+p3 =
+    record { before = p3Before; last = liftBytes 0; outcome = record { refused = 0; struck = 0; reopened = 4; left = (0 ∷ 1 ∷ 2 ∷ []) ∷ (0 ∷ 1 ∷ []) ∷ (0 ∷ 1 ∷ []) ∷ [] } }
+
+-- P4: the worked session, at its second put, its first lift and its second
+abbrev pub p4Before : List (List ℕ)
+p4Before =
+    boardBytes (2 ∷ 2 ∷ []) ∷ headBytes 0 (0 ∷ 1 ∷ []) ∷ rowBytes (0 ∷ 0 ∷ []) ∷ rowBytes (1 ∷ 1 ∷ []) ∷ putBytes ∷ headBytes 5 (0 ∷ []) ∷ rowBytes (0 ∷ []) ∷ []
+
+abbrev pub p4Put : Sample
+p4Put = record { before = p4Before; last = putBytes; outcome = record { refused = 0; struck = 2; reopened = 0; left = (0 ∷ []) ∷ (0 ∷ []) ∷ [] } }
+
+abbrev pub p4Lift : Sample
+p4Lift =
+    record {
+      before = p4Before ++ (putBytes ∷ []);
+      last = liftBytes 5;
+      outcome = record { refused = 0; struck = 0; reopened = 2; left = (0 ∷ 1 ∷ []) ∷ (0 ∷ 1 ∷ []) ∷ [] };
+    }
+
+abbrev pub p4Again : Sample
+p4Again =
+    record {
+      before = p4Before ++ (putBytes ∷ liftBytes 5 ∷ []);
+      last = liftBytes 5;
+      outcome = record { refused = 17; struck = 0; reopened = 0; left = (0 ∷ 1 ∷ []) ∷ (0 ∷ 1 ∷ []) ∷ [] };
+    }
+
+-- P5, P6: "a rule on call 0 alone without rows strikes all of call 0 and nothing of an unjoined call 1; lifting it reopens all"
+abbrev pub p5Before : List (List ℕ)
+p5Before = boardBytes (2 ∷ 2 ∷ []) ∷ headBytes 9 (0 ∷ []) ∷ []
+
+abbrev pub p5 : Sample
+p5 = record { before = p5Before; last = putBytes; outcome = record { refused = 0; struck = 2; reopened = 0; left = [] ∷ (0 ∷ 1 ∷ []) ∷ [] } }
+
+abbrev pub p6 : Sample
+p6 =
+    record {
+      before = p5Before ++ (putBytes ∷ []);
+      last = liftBytes 9;
+      outcome = record { refused = 0; struck = 0; reopened = 2; left = (0 ∷ 1 ∷ []) ∷ (0 ∷ 1 ∷ []) ∷ [] };
+    }
+
+-- P7 to P10: count 32 accepted, 33 refused 5; number 63 accepted, 64 refused 7
+abbrev pub p7 : Sample
+p7 = record { before = []; last = boardBytes (32 ∷ []); outcome = record { refused = 0; struck = 0; reopened = 0; left = upFrom 0 32 ∷ [] } }
+
+abbrev pub p8 : Sample
+p8 = record { before = []; last = boardBytes (33 ∷ []); outcome = record { refused = 5; struck = 0; reopened = 0; left = [] } }
+
+abbrev pub p9 : Sample
+p9 = record { before = boardBytes (1 ∷ []) ∷ []; last = headBytes 63 (0 ∷ []); outcome = record { refused = 0; struck = 0; reopened = 0; left = (0 ∷ []) ∷ [] } }
+
+abbrev pub p10 : Sample
+p10 = record { before = boardBytes (1 ∷ []) ∷ []; last = headBytes 64 (0 ∷ []); outcome = record { refused = 7; struck = 0; reopened = 0; left = (0 ∷ []) ∷ [] } }
+
+-- P11, P12: the 64th row accepted, the 65th refused 13
+abbrev pub wideRows : ℕ → List (List ℕ)
+wideRows n = boardBytes (9 ∷ 8 ∷ []) ∷ headBytes 0 (0 ∷ 1 ∷ []) ∷ map (λ i. rowBytes (i / 8 ∷ i % 8 ∷ [])) (upFrom 0 n)
+
+abbrev pub p11 : Sample
+p11 =
+    record { before = wideRows 63; last = rowBytes (7 ∷ 7 ∷ []); outcome = record { refused = 0; struck = 0; reopened = 0; left = upFrom 0 9 ∷ upFrom 0 8 ∷ [] } }
+
+abbrev pub p12 : Sample
+p12 =
+    record { before = wideRows 64; last = rowBytes (8 ∷ 0 ∷ []); outcome = record { refused = 13; struck = 0; reopened = 0; left = upFrom 0 9 ∷ upFrom 0 8 ∷ [] } }
+
+-- THE LIST
+abbrev pub samples : List Sample
+samples = p1 ∷ p2 ∷ p3 ∷ p4Put ∷ p4Lift ∷ p4Again ∷ p5 ∷ p6 ∷ p7 ∷ p8 ∷ p9 ∷ p10 ∷ p11 ∷ p12 ∷ []
+
+-- P4's input and output, whole, as bytes
+abbrev pub joined : List (List ℕ) → List ℕ
+joined [] = []
+joined (x ∷ xs) = x ++ joined xs
+
+abbrev pub p4Input : List ℕ
+p4Input = joined (p4Before ++ (putBytes ∷ liftBytes 5 ∷ liftBytes 5 ∷ []))
+
+-- a 1 0 0, a 2 0 0, a 3 0 0, a 3 0 0, a 4 0 0, a 2 0 0, a 3 0 0, a 4 2 0, a 5 0 2, r 5 17, c 0 0 1, c 1 0 1, end
+abbrev pub p4Output : List ℕ
+p4Output =
+    97 ∷ 32 ∷ 49 ∷ 32 ∷ 48 ∷ 32 ∷ 48 ∷ 10
+    ∷ 97 ∷ 32 ∷ 50 ∷ 32 ∷ 48 ∷ 32 ∷ 48 ∷ 10
+    ∷ 97 ∷ 32 ∷ 51 ∷ 32 ∷ 48 ∷ 32 ∷ 48 ∷ 10
+    ∷ 97 ∷ 32 ∷ 51 ∷ 32 ∷ 48 ∷ 32 ∷ 48 ∷ 10
+    ∷ 97 ∷ 32 ∷ 52 ∷ 32 ∷ 48 ∷ 32 ∷ 48 ∷ 10
+    ∷ 97 ∷ 32 ∷ 50 ∷ 32 ∷ 48 ∷ 32 ∷ 48 ∷ 10
+    ∷ 97 ∷ 32 ∷ 51 ∷ 32 ∷ 48 ∷ 32 ∷ 48 ∷ 10
+    ∷ 97 ∷ 32 ∷ 52 ∷ 32 ∷ 50 ∷ 32 ∷ 48 ∷ 10
+    ∷ 97 ∷ 32 ∷ 53 ∷ 32 ∷ 48 ∷ 32 ∷ 50 ∷ 10
+    ∷ 114 ∷ 32 ∷ 53 ∷ 32 ∷ 49 ∷ 55 ∷ 10
+    ∷ 99 ∷ 32 ∷ 48 ∷ 32 ∷ 48 ∷ 32 ∷ 49 ∷ 10
+    ∷ 99 ∷ 32 ∷ 49 ∷ 32 ∷ 48 ∷ 32 ∷ 49 ∷ 10
+    ∷ 101 ∷ 110 ∷ 100 ∷ 10
+    ∷ []
