@@ -8,3 +8,5 @@ pub mod Joined
 pub mod Fresh
 pub mod Lists
 pub mod Samples
+pub mod Reports
+pub mod WrongBoards

@@ -17,7 +17,7 @@ use Rattle.model.specs.Laws.Tests.{and→, →and, or→, →or, T?, som
 use Rattle.model.specs.Laws.Theory.{counts-below, numbered}
 
 -- the slots that are left, as a set
-abbrev In : List (List ℕ) → ℕ → ℕ → Type 0
+abbrev pub In : List (List ℕ) → ℕ → ℕ → Type 0
 In left = Passing (in? left)
 
 -- THE TESTS ARE RIGHT
@@ -50,7 +50,7 @@ module _ (B : Board) (r : Rule) where
       (→and (counts? B r k) (eqb (callAt r k) c) (o .counts) (→eqb (callAt r k) c (o .call)))
 
   module _ (left : List (List ℕ)) where
-    within→ : (w : ℕ) → T (within? B left r w) → Within B (In left) r w
+    pub within→ : (w : ℕ) → T (within? B left r w) → Within B (In left) r w
     within→ w t k n =
         go (or→ (not (counts? B r k)) (in? left (callAt r k) (slotAt r w k))
         (every→ (length (r .calls)) (λ k. not (counts? B r k) || in? left (callAt r k) (slotAt r w k)) t k (counts-below B r k n)))
@@ -79,7 +79,7 @@ module _ (B : Board) (r : Rule) where
         →some (length (r .rows)) (λ w. holds? B r w c s && within? B left r w) (u .row) (u .inside)
         (→and (holds? B r (u .row) c s) (within? B left r (u .row)) (→holds (u .row) c s (u .holds)) (→within A sub (u .row) (u .within)))
 
-all→ : (f : Option Rule → Bool) (xs : List (Option Rule)) → T (all? f xs) → (p : ℕ) → p < length xs → T (f (getD xs p none))
+pub all→ : (f : Option Rule → Bool) (xs : List (Option Rule)) → T (all? f xs) → (p : ℕ) → p < length xs → T (f (getD xs p none))
 all→ f [] t p h = absurd (omega arith)
 all→ f (x ∷ xs) t zero h = and→ (f x) (all? f xs) t .0
 all→ f (x ∷ xs) t (suc p) h = all→ f xs (and→ (f x) (all? f xs) t .1) p (le-of-suc-le-suc h)

@@ -1,0 +1,246 @@
+-- WHAT THE PROMISE TURNS AWAY. For each wrong board of document 01, "What a contract here has to say", c, and for the wrong turns that P3, P4 and P5 show: no
+-- state and answer after a sample's commands meet both the promise and the wrong behaviour. Assumes nothing.
+use mathlib.Core.Path.{_≡_, refl, sym, ap, subst, _∙_}
+use mathlib.Core.Bool.{Bool, true, false, not, _&&_}
+use mathlib.Core.List.{List, [], _∷_, map}
+use mathlib.Core.Logic.{_≢_, _⊎_, inl, inr}
+use mathlib.Core.Option.{Option, none, some}
+use Prim.Native.Nat.{ℕ, zero, suc, _<_}
+use native.Mathlib.Omega.{arith}
+use lib.ListN.{length, getD}
+use lib.Dec.{T, lit<, not-T, T-not}
+use Rattle.model.specs.declared.answer.Report.{Report}
+use Rattle.model.specs.declared.answer.Answer.{Answer}
+use Rattle.model.specs.declared.answer.Answer.the-variants as answer
+use Rattle.model.specs.declared.answer.OpenSlots.{OpenSlots}
+use Rattle.model.specs.declared.answer.OpenSlots.the-variants as slots
+use Rattle.model.specs.declared.answer.Support.the-variants as support
+use Rattle.model.specs.Board.{Rule, Board, callAt, slotAt, OnBoard, InForce, counts?, OnCall}
+use Rattle.model.specs.Records.{Struck, Grounded, because}
+use Rattle.model.specs.Tests.{count}
+use Rattle.model.specs.Filter.{in?, onCall?, all?, openOf}
+use Rattle.model.specs.Commands.{readAt}
+use Rattle.model.specs.Ledger.{Ledger, LedgerShape, Lent, Member, firstOf, refusal, step}
+use Rattle.model.specs.Report.{markOf, open?}
+use Rattle.model.specs.Representation.{State, lentOf, killerOf, Represents, freshState, ruleAt}
+use Rattle.model.specs.Promise.{Promise, Answered, ReportsOf, decided}
+use Rattle.model.specs.Questions.{maskOf, slotsConditions, slotsDecided, slotsValues, SlotsPromise, supportConditions, SupportPromise}
+use Rattle.model.specs.Lists.{Runs, Turn}
+use Rattle.model.specs.Samples.{Outcome, Sample, Right, member, lengths, ledgerBefore, ledgerLast, p1, p2, p3, p4Lift, p5, p6}
+use Rattle.model.specs.Laws.Tests.{→and, clash}
+use Rattle.model.specs.Laws.Theory.{one-rule, numbered}
+use Rattle.model.specs.Laws.Filter.{found-viable, within→, →onCall, all→}
+use Rattle.model.specs.Laws.Lists.{IsOf, runs-represent}
+use Rattle.model.specs.Laws.Shapes.{shape-step}
+use Rattle.model.specs.Laws.Samples.{samples-right}
+use Rattle.model.specs.Laws.Reports.{open-in, struck-between, reopened-between}
+
+-- two tests that differ
+abbrev differ : Bool → Bool → Bool
+differ true b = not b
+differ false b = b
+
+differ-not : (a b : Bool) → T (differ a b) → a ≡ b → ⊥
+differ-not true true t e = t
+differ-not true false t e = clash e
+differ-not false true t e = clash (sym e)
+differ-not false false t e = t
+
+-- masks of tests that agree
+mask-same : (n : ℕ) (f g : ℕ → Bool) → ((i : ℕ) → i < n → f i ≡ g i) → maskOf n f ≡ maskOf n g
+mask-same zero f g same = refl
+mask-same (suc n) f g same = let e = mask-same n f g (λ i h. same i (omega arith)) in let d = same n (omega arith) in rw (e, d) refl
+
+-- a rule on calls 0 and 2
+abbrev onBoth : Board → Option Rule → Bool
+onBoth B none = false
+onBoth B (some r) = onCall? B r 0 && onCall? B r 2
+
+-- where no rule is on both calls, a slot of call 0 and one of call 2 have two causes
+two-causes : (B : Board) (mark killer : ℕ → ℕ → ℕ) {a b : ℕ} → T (all? (λ o. not (onBoth B o)) (B .rules)) → Grounded B mark killer 0 a → Grounded B mark killer 2 b
+    → mark 0 a ≡ mark 2 b → ⊥
+two-causes B mark killer {a} {b} none-on-both (because r f o k g) (because r′ f′ o′ k′ g′) same =
+    let one : r′ ≡ r = one-rule B (mark 0 a) (rw (← same) at f′) f in
+    let out : T (not (onBoth B (some r))) = rw f at (all→ (λ o. not (onBoth B o)) (B .rules) none-on-both (mark 0 a) (numbered B (mark 0 a) r f)) in
+    T-not (onCall? B r 0 && onCall? B r 2) out (→and (onCall? B r 0) (onCall? B r 2) (→onCall B r 0 o) (→onCall B r 2 (rw one at o′)))
+
+-- A SAMPLE'S LAST COMMAND, on any state that its other commands reach by the promise, with any answer and state after it that the promise allows
+pub record Last (x : Sample) (s : State) (given : Answer) (s′ : State) : Type 0 where
+  pub reached : Runs State Member Turn freshState (map member (x .before)) s
+  pub promise : Promise s (x .last) given s′
+
+module _ (x : Sample) (s : State) (given : Answer) (s′ : State) (last : Last x s given s′) where
+  is : IsOf (ledgerBefore x) s
+  is = runs-represent (map member (x .before)) s (last .reached)
+
+  lent : lentOf s ≡ lengths
+  lent =
+      let r = is .1 .stored .row-bytes .rows-size in
+      let k = is .1 .stored .killers-size in
+      let b = is .1 .stored .slots-size in
+      cc
+
+  answered : Answered (ledgerBefore x) s (x .last) given s′
+  answered = last .promise .answered (ledgerBefore x) (is .0) (is .1)
+
+  after : Represents (ledgerLast x) s′
+  after = subst (λ (l : Lent). Represents (step (ledgerBefore x) l (x .last)) s′) lent (answered .represents)
+
+  -- a byte is 255 where the sample says open, and only there
+  opens : Right x → (c t : ℕ) → c < 32 → t < 32 → T (in? (x .outcome .left) c t) → markOf (s′ .slots) c t ≡ 255
+  opens right c t lc lt i = after .stored .viable c t lc lt .1 (right .viable c t .0 i)
+
+  closes : Right x → (c t : ℕ) → c < 32 → t < 32 → T (not (in? (x .outcome .left) c t)) → markOf (s′ .slots) c t ≢ 255
+  closes right c t lc lt n e = T-not (in? (x .outcome .left) c t) n (right .viable c t .1 (after .stored .viable c t lc lt .0 e))
+
+  -- the answer is the one that the sample's refusal decides
+  refusal-is : Right x → refusal (ledgerBefore x) (lentOf s) (x .last) ≡ x .outcome .refused
+  refusal-is right = ap (λ (l : Lent). refusal (ledgerBefore x) l (x .last)) lent ∙ ap (λ (o : Outcome). o .refused) (right .outcome)
+
+  decision-is : Right x → given ≡ decided (x .outcome .refused) (answered .report)
+  decision-is right = answered .decision ∙ ap (λ (n : ℕ). decided n (answered .report)) (refusal-is right)
+
+  -- a slot of the board that the sample says is closed is struck
+  strikes : Right x → (c t : ℕ) → c < 32 → t < 32 → OnBoard (ledgerLast x .board) c t → T (not (in? (x .outcome .left) c t)) → Struck (ledgerLast x .board) (markOf (s′ .slots)) c t
+  strikes right c t lc lt on n = (on, go (after .stored .recorded .sound .either c t on))
+    where
+      go : (markOf (s′ .slots) c t ≡ 255) ⊎ (markOf (s′ .slots) c t < 64) → markOf (s′ .slots) c t < 64
+      go (inl e) = absurd (closes right c t lc lt n e)
+      go (inr h) = h
+
+  -- before the last command a byte is 255 where the filter finds the slot open
+  was : (c t : ℕ) → c < 32 → t < 32 → open? (s .slots) c t ≡ in? (openOf (ledgerBefore x .board)) c t
+  was = open-in (ledgerBefore x) s (is .1)
+
+  now-is : (c t : ℕ) → c < 32 → t < 32 → open? (s′ .slots) c t ≡ in? (openOf (ledgerLast x .board)) c t
+  now-is = open-in (ledgerLast x) s′ after
+
+  -- what the slot bytes say of a slot that the command opened or closed cannot stay
+  changes : (c t : ℕ) → c < 32 → t < 32 → T (differ (in? (openOf (ledgerBefore x .board)) c t) (in? (openOf (ledgerLast x .board)) c t)) → s′ .slots ≡ s .slots → ⊥
+  changes c t lc lt d same =
+      differ-not (in? (openOf (ledgerBefore x .board)) c t) (in? (openOf (ledgerLast x .board)) c t) d
+      (sym (was c t lc lt) ∙ ap (λ (l : List ℕ). open? l c t) (sym same) ∙ now-is c t lc lt)
+
+  shape-after : LedgerShape (ledgerLast x)
+  shape-after = shape-step (ledgerBefore x) lengths (x .last) (is .0)
+
+  lent-after : lentOf s′ ≡ lengths
+  lent-after =
+      let r = after .stored .row-bytes .rows-size in
+      let k = after .stored .killers-size in
+      let b = after .stored .slots-size in
+      cc
+
+  -- a value of which the report of what was read says n is n in the answer
+  told : (value : Report → ℕ) (n : ℕ) → ((r : Report) → ReportsOf (readAt (x .last) 0 .read) (s .slots) (s′ .slots) r → value r ≡ n) → Right x → x .outcome .refused ≡ 0
+      → (r : Report) → given ≡ answer.Accepted r → value r ≡ n
+  told value n says right accepted r e =
+      let d : given ≡ decided 0 (answered .report) = decision-is right ∙ ap (λ (m : ℕ). decided m (answered .report)) accepted in
+      let q : answered .report ≡ r = cc in
+      rw q at (says (answered .report) (answered .reported (refusal-is right ∙ accepted)))
+
+-- the samples that show something
+right-p1 : Right p1
+right-p1 = samples-right .0
+
+right-p2 : Right p2
+right-p2 = samples-right .1 .0
+
+right-p3 : Right p3
+right-p3 = samples-right .1 .1 .0
+
+right-p4-lift : Right p4Lift
+right-p4-lift = samples-right .1 .1 .1 .1 .0
+
+right-p5 : Right p5
+right-p5 = samples-right .1 .1 .1 .1 .1 .1 .0
+
+right-p6 : Right p6
+right-p6 = samples-right .1 .1 .1 .1 .1 .1 .1 .0
+
+module _ (s : State) (given : Answer) (s′ : State) where
+  -- A BOARD THAT REFUSES ALL COMMANDS
+  pub not-refusing : Last p1 s given s′ → (n : ℕ) → given ≡ answer.Refused n → ⊥
+  not-refusing last n e =
+      let d : given ≡ answer.Accepted (answered p1 s given s′ last .report) = decision-is p1 s given s′ last right-p1 in
+      let z : _≡_ {A = ℕ} 0 1 = cc in
+      omega arith
+
+  -- ONE THAT STRIKES EVERYTHING
+  pub not-striking-all : Last p1 s given s′ → ((c t : ℕ) → OnBoard (ledgerLast p1 .board) c t → markOf (s′ .slots) c t < 64) → ⊥
+  not-striking-all last all = omega (arith, all 0 0 (lit< tt), opens p1 s given s′ last right-p1 0 0 (lit< tt) (lit< tt) tt)
+
+  -- ONE THAT STRIKES NOTHING
+  pub not-striking-none : Last p1 s given s′ → ((c t : ℕ) → OnBoard (ledgerLast p1 .board) c t → markOf (s′ .slots) c t ≡ 255) → ⊥
+  not-striking-none last all = closes p1 s given s′ last right-p1 0 2 (lit< tt) (lit< tt) tt (all 0 2 (lit< tt))
+
+  -- ONE THAT ALWAYS SHOWS ONE MASK: after P5 the two calls differ
+  pub not-one-mask : Last p5 s given s′ → (shown : OpenSlots) → SlotsPromise s′ 0 shown → SlotsPromise s′ 1 shown → ⊥
+  unfolding counts?
+  not-one-mask last shown m m′ =
+      let L = ledgerLast p5 in
+      let shape = shape-after p5 s given s′ last in
+      let rep = after p5 s given s′ last in
+      let lengths-right = lent-after p5 s given s′ last in
+      let e : shown ≡ slots.Mask (maskOf 32 (open? (s′ .slots) 0)) (count 32 (open? (s′ .slots) 0)) = m .decision L shape rep ∙ ap (answer-at 0) lengths-right in
+      let e′ : shown ≡ slots.Mask (maskOf 32 (open? (s′ .slots) 1)) (count 32 (open? (s′ .slots) 1)) = m′ .decision L shape rep ∙ ap (answer-at 1) lengths-right in
+      let zero-mask : maskOf 32 (open? (s′ .slots) 0) ≡ 0 = mask-same 32 (open? (s′ .slots) 0) (in? (openOf (L .board)) 0) (λ t h. now-is p5 s given s′ last 0 t (lit< tt) h) in
+      let full-mask : maskOf 32 (open? (s′ .slots) 1) ≡ 3 = mask-same 32 (open? (s′ .slots) 1) (in? (openOf (L .board)) 1) (λ t h. now-is p5 s given s′ last 1 t (lit< tt) h) in
+      let z : _≡_ {A = ℕ} 0 3 = sym zero-mask ∙ ap (λ (o : OpenSlots). getD (slotsValues o) 0 0) (sym e ∙ e′) ∙ full-mask in
+      omega arith
+    where
+      answer-at : ℕ → Lent → OpenSlots
+      answer-at c l = slotsDecided (firstOf (slotsConditions (ledgerLast p5) l c)) (maskOf 32 (open? (s′ .slots) c)) (count 32 (open? (s′ .slots) c))
+
+  -- ONE THAT IGNORES LIFTS
+  pub not-ignoring-lifts : Last p6 s given s′ → s′ .slots ≡ s .slots → ⊥
+  unfolding counts?
+  not-ignoring-lifts last = changes p6 s given s′ last 0 0 (lit< tt) (lit< tt) tt
+
+  -- ONE THAT STRIKES AT THE FIRST PUT AND IDLES LATER
+  pub not-idling : Last p2 s given s′ → s′ .slots ≡ s .slots → ⊥
+  unfolding counts?
+  not-idling last = changes p2 s given s′ last 0 1 (lit< tt) (lit< tt) tt
+
+  -- ONE THAT NAMES ONE CAUSE FOR ALL
+  pub not-one-cause : Last p2 s given s′ → (n : ℕ) → ((c t : ℕ) → Struck (ledgerLast p2 .board) (markOf (s′ .slots)) c t → markOf (s′ .slots) c t ≡ n) → ⊥
+  unfolding counts?
+  not-one-cause last n one =
+      let h = strikes p2 s given s′ last right-p2 0 2 (lit< tt) (lit< tt) (lit< tt) tt in
+      let h′ = strikes p2 s given s′ last right-p2 2 1 (lit< tt) (lit< tt) (lit< tt) tt in
+      let sound = after p2 s given s′ last .stored .recorded .sound in
+      two-causes (ledgerLast p2 .board) (markOf (s′ .slots)) (killerOf (s′ .killers)) tt (sound .grounded 0 2 h) (sound .grounded 2 1 h′) (one 0 2 h ∙ sym (one 2 1 h′))
+
+  -- ONE THAT INVENTS S, AND ONE THAT INVENTS R
+  pub not-inventing-struck : Last p1 s given s′ → (r : Report) → given ≡ answer.Accepted r → r .struck ≢ 2 → ⊥
+  not-inventing-struck last r e wrong =
+      wrong (told p1 s given s′ last (λ r. r .struck) 2
+      (λ r w. w .struck ∙ struck-between (ledgerBefore p1) (ledgerLast p1) s s′ (is p1 s given s′ last .1) (after p1 s given s′ last) ∙ ap (λ (o : Outcome). o .struck) (right-p1 .outcome))
+      right-p1 refl r e)
+
+  pub not-inventing-reopened : Last p3 s given s′ → (r : Report) → given ≡ answer.Accepted r → r .reopened ≢ 4 → ⊥
+  not-inventing-reopened last r e wrong =
+      wrong (told p3 s given s′ last (λ r. r .reopened) 4
+      (λ r w. w .reopened ∙ reopened-between (ledgerBefore p3) (ledgerLast p3) s s′ (is p3 s given s′ last .1) (after p3 s given s′ last) refl
+      ∙ ap (λ (o : Outcome). o .reopened) (right-p3 .outcome))
+      right-p3 refl r e)
+
+  -- ONE THAT SAYS "NONE" WITH A LIVING ROW THERE: row 0 of P1's rule holds slot 0 in column 0
+  pub not-none-with-support : Last p1 s given s′ → SupportPromise s′ 0 0 0 support.Nothing → ⊥
+  unfolding counts?
+  not-none-with-support last m =
+      let L = ledgerLast p1 in
+      m .means L (shape-after p1 s given s′ last) (after p1 s given s′ last) (ap (λ (l : Lent). firstOf (supportConditions L l 0 0 0)) (lent-after p1 s given s′ last)) 0 (lit< tt)
+      (λ k n. found-viable (L .board) (callAt (ruleAt (L .board) 0) k) (slotAt (ruleAt (L .board) 0) 0 k) .0 (within→ (L .board) (ruleAt (L .board) 0) (openOf (L .board)) 0 tt k n)) refl
+
+  -- THE WRONG TURNS. "in P4 each of two slots waits for the other and both stay struck"
+  pub not-waiting : Last p4Lift s given s′ → markOf (s′ .slots) 0 1 < 64 → markOf (s′ .slots) 1 1 < 64 → ⊥
+  not-waiting last h h′ = omega (arith, opens p4Lift s given s′ last right-p4-lift 0 1 (lit< tt) (lit< tt) tt)
+
+  -- "in P3, slot 1 of call 2 stays struck"
+  pub not-own-cause-only : Last p3 s given s′ → markOf (s′ .slots) 2 1 < 64 → ⊥
+  not-own-cause-only last h = omega (arith, opens p3 s given s′ last right-p3 2 1 (lit< tt) (lit< tt) tt)
+
+  -- "Clearing the whole board when one call has nothing open": P5's call 1
+  pub not-clearing : Last p5 s given s′ → ((c t : ℕ) → OnBoard (ledgerLast p5 .board) c t → markOf (s′ .slots) c t < 64) → ⊥
+  not-clearing last all = omega (arith, all 1 0 (lit< tt), opens p5 s given s′ last right-p5 1 0 (lit< tt) (lit< tt) tt)
