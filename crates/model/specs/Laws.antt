@@ -6,6 +6,7 @@ pub mod Shapes
 pub mod Change
 pub mod Joined
 pub mod Fresh
+pub mod Answers
 pub mod Lists
 pub mod Samples
 pub mod Reports

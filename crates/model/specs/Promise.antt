@@ -2,7 +2,6 @@
 -- before. The entry's `ensures` cites this record and nothing else.
 use mathlib.Core.Path.{_≡_}
 use mathlib.Core.List.{List, [], _∷_}
-use mathlib.Core.Option.{Option, none, some}
 use Prim.Native.Nat.{ℕ, zero, suc}
 use Rattle.model.specs.declared.answer.Report.{Report}
 use Rattle.model.specs.declared.answer.Answer.{Answer}
@@ -13,7 +12,7 @@ use Rattle.model.specs.declared.command.Read.{Read}
 use Rattle.model.specs.declared.command.Read.the-variants as found
 use Rattle.model.specs.Commands.{readAt}
 use Rattle.model.specs.Ledger.{Ledger, LedgerShape, fresh, firstOf, earlyConditions, kindConditions, refusal, effect, step}
-use Rattle.model.specs.Report.{Silent, Reports}
+use Rattle.model.specs.Report.{Reports}
 use Rattle.model.specs.Representation.{State, lentOf, Represents}
 
 -- AN ANSWER'S NUMBER AND VALUES: 0 with S, R, T for an accepted command; a refusal "returns only its number"
@@ -21,14 +20,17 @@ abbrev pub numberOf : Answer → ℕ
 numberOf (answer.Accepted r) = 0
 numberOf (answer.Refused n) = n
 
+abbrev pub reportValues : Report → List ℕ
+reportValues r = r .struck ∷ r .reopened ∷ r .touched ∷ []
+
 abbrev pub valuesOf : Answer → List ℕ
-valuesOf (answer.Accepted r) = r .struck ∷ r .reopened ∷ r .touched ∷ []
+valuesOf (answer.Accepted r) = reportValues r
 valuesOf (answer.Refused n) = []
 
--- the answer for a refusal's number, with the report that an accepted command carries
-abbrev pub decided : ℕ → Report → Answer
-decided zero r = answer.Accepted r
-decided (suc n) r = answer.Refused (suc n)
+-- values go with the number 0 alone
+abbrev pub valuesAt : ℕ → List ℕ → List ℕ
+valuesAt zero values = values
+valuesAt (suc n) values = []
 
 -- the report of what was read: of a command by its kind
 abbrev pub ReportsOf : Read → List ℕ → List ℕ → Report → Type 0
@@ -39,22 +41,23 @@ ReportsOf found.End before after r = ⊥
 -- on a state that is the ledger L's: the first condition of the table decides, the report is right, and the state after is the stepped ledger's
 pub record Answered (L : Ledger) (before : State) (bytes : List ℕ) (given : Answer) (after : State) : Type 0 where
   pub report : Report
-  pub decision : given ≡ decided (refusal L (lentOf before) bytes) report
+  pub number : numberOf given ≡ refusal L (lentOf before) bytes
+  pub values : valuesOf given ≡ valuesAt (refusal L (lentOf before) bytes) (reportValues report)
   pub reported : refusal L (lentOf before) bytes ≡ 0 → ReportsOf (readAt bytes 0 .read) (before .slots) (after .slots) report
   pub represents : Represents (step L (lentOf before) bytes) after
 
 -- a kind 1 whose form is right, whatever the memory held: decided by its counts alone, and a board of these counts is made new
 pub record BoardMade (ns : List ℕ) (given : Answer) (after : State) : Type 0 where
-  pub report : Report
-  pub silent : Silent report
-  pub decision : given ≡ decided (firstOf (kindConditions fresh kind.Board ns)) report
+  pub number : numberOf given ≡ firstOf (kindConditions fresh kind.Board ns)
+  pub values : valuesOf given ≡ valuesAt (firstOf (kindConditions fresh kind.Board ns)) (0 ∷ 0 ∷ 0 ∷ [])
   pub represents : firstOf (kindConditions fresh kind.Board ns) ≡ 0 → Represents (effect fresh kind.Board ns) after
 
 pub record Promise (before : State) (bytes : List ℕ) (given : Answer) (after : State) : Type 0 where
   -- WHATEVER THE MEMORY HOLDS: 1, 3 and 4 are given on their conditions
-  pub early : (n : ℕ) → firstOf (earlyConditions (lentOf before) bytes) ≡ suc n → given ≡ answer.Refused (suc n)
+  pub early : (n : ℕ) → firstOf (earlyConditions (lentOf before) bytes) ≡ suc n → numberOf given ≡ suc n
   -- "A refusal changes no byte of the buffers and nothing of the value beside them"
   pub refused : (n : ℕ) → given ≡ answer.Refused n → after ≡ before
+  -- a kind 1 does the same on every memory
   pub made : firstOf (earlyConditions (lentOf before) bytes) ≡ 0 → readAt bytes 0 .read ≡ found.Command kind.Board
       → BoardMade (readAt bytes 0 .counts) given after
   -- WHERE THE STATE IS A LEDGER'S

@@ -1,6 +1,6 @@
 // The value beside the lent buffers, whole.
 ghost use mathlib.Core.Path.{_≡_};
-ghost use lib.ListN.{replicate};
+ghost use Rattle.model.specs.Representation.{freshHeads, emptyDraft, freshValue};
 
 // The calls and the heads of the rules in force.
 pub struct Heads {
@@ -44,7 +44,7 @@ pub const SLOTS: usize = 1024;
 impl Heads {
     // No calls, and no rule in force.
     pub fn fresh() -> Self
-        ensures { λ r. ⌜ (r .counts ≡ replicate 32 0) × (r .arity ≡ replicate 64 0) × (r .calls ≡ replicate 256 255) × (r .lengths ≡ replicate 64 0) ⌝ }
+        ensures { λ r. ⌜ r ≡ freshHeads ⌝ }
     {
         Self {
             counts: [0; 32],
@@ -66,7 +66,7 @@ impl Draft {
     };
 
     pub fn empty() -> Self
-        ensures { λ r. ⌜ (r .number ≡ 255) × (r .arity ≡ 0) × (r .calls ≡ replicate 4 255) × (r .length ≡ 0) × (r .rows ≡ replicate 256 255) ⌝ }
+        ensures { λ r. ⌜ r ≡ emptyDraft ⌝ }
     {
         Self::EMPTY
     }
@@ -75,8 +75,7 @@ impl Draft {
 impl Value {
     // The value before the first command.
     pub fn fresh() -> Self
-        ensures heads { λ r. ⌜ (r .heads .counts ≡ replicate 32 0) × (r .heads .arity ≡ replicate 64 0) × (r .heads .calls ≡ replicate 256 255) × (r .heads .lengths ≡ replicate 64 0) ⌝ }
-        ensures draft { λ r. ⌜ (r .draft .number ≡ 255) × (r .draft .arity ≡ 0) × (r .draft .calls ≡ replicate 4 255) × (r .draft .length ≡ 0) × (r .draft .rows ≡ replicate 256 255) ⌝ }
+        ensures { λ r. ⌜ r ≡ freshValue ⌝ }
     {
         Self {
             heads: Heads::fresh(),

@@ -21,6 +21,7 @@ use Rattle.model.specs.Promise.{Promise, Answered}
 use Rattle.model.specs.Lists.{Runs, done, then, standing, Turn, Demand3, Demand3Two}
 use Rattle.model.specs.Laws.Tests.{clash}
 use Rattle.model.specs.Laws.Theory.{open-viable, struck-caused, row-records, no-ring, escape-from-all, plan-open, viable-mono}
+use Rattle.model.specs.Laws.Answers.{refused-by}
 use Rattle.model.specs.Laws.Shapes.{shape-step, shape-fresh}
 use Rattle.model.specs.Laws.Fresh.{fresh-represents}
 
@@ -95,7 +96,7 @@ state-same a b v r k s =
 pub bad-turn : (m : Member) (s s′ : State) → Turn m s s′ → badLent (m .lent) ≡ true → s′ ≡ s
 bad-turn m s s′ t bad =
     let short : badLent (lentOf (t .handed)) ≡ true = ap badLent (t .lengths) ∙ bad in
-    let refused : t .given ≡ answer.Refused 1 = t .promise .early 0 (rw short refl) in
+    let refused : t .given ≡ answer.Refused 1 = refused-by (t .given) 0 (t .promise .early 0 (rw short refl)) in
     let same : t .left ≡ t .handed = t .promise .refused 1 refused in
     t .stands
     ∙ state-same (record {

@@ -13,7 +13,6 @@ use Rattle.model.specs.declared.answer.Report.{Report}
 use Rattle.model.specs.declared.answer.Answer.{Answer}
 use Rattle.model.specs.declared.answer.Answer.the-variants as answer
 use Rattle.model.specs.declared.answer.OpenSlots.{OpenSlots}
-use Rattle.model.specs.declared.answer.OpenSlots.the-variants as slots
 use Rattle.model.specs.declared.answer.Support.the-variants as support
 use Rattle.model.specs.Board.{Rule, Board, callAt, slotAt, OnBoard, InForce, counts?, OnCall}
 use Rattle.model.specs.Records.{Struck, Grounded, because}
@@ -23,14 +22,15 @@ use Rattle.model.specs.Commands.{readAt}
 use Rattle.model.specs.Ledger.{Ledger, LedgerShape, Lent, Member, firstOf, refusal, step}
 use Rattle.model.specs.Report.{markOf, open?}
 use Rattle.model.specs.Representation.{State, lentOf, killerOf, Represents, freshState, ruleAt}
-use Rattle.model.specs.Promise.{Promise, Answered, ReportsOf, decided}
-use Rattle.model.specs.Questions.{maskOf, slotsConditions, slotsDecided, slotsValues, SlotsPromise, supportConditions, SupportPromise}
+use Rattle.model.specs.Promise.{Promise, Answered, ReportsOf, valuesAt, reportValues}
+use Rattle.model.specs.Questions.{maskOf, slotsConditions, slotsValues, SlotsPromise, supportConditions, SupportPromise}
 use Rattle.model.specs.Lists.{Runs, Turn}
 use Rattle.model.specs.Samples.{Outcome, Sample, Right, member, lengths, ledgerBefore, ledgerLast, p1, p2, p3, p4Lift, p5, p6}
 use Rattle.model.specs.Laws.Tests.{→and, clash}
 use Rattle.model.specs.Laws.Theory.{one-rule, numbered}
 use Rattle.model.specs.Laws.Filter.{found-viable, within→, →onCall, all→}
 use Rattle.model.specs.Laws.Lists.{IsOf, runs-represent}
+use Rattle.model.specs.Laws.Answers.{accepted-by}
 use Rattle.model.specs.Laws.Shapes.{shape-step}
 use Rattle.model.specs.Laws.Samples.{samples-right}
 use Rattle.model.specs.Laws.Reports.{open-in, struck-between, reopened-between}
@@ -97,8 +97,9 @@ module _ (x : Sample) (s : State) (given : Answer) (s′ : State) (last : Last x
   refusal-is : Right x → refusal (ledgerBefore x) (lentOf s) (x .last) ≡ x .outcome .refused
   refusal-is right = ap (λ (l : Lent). refusal (ledgerBefore x) l (x .last)) lent ∙ ap (λ (o : Outcome). o .refused) (right .outcome)
 
-  decision-is : Right x → given ≡ decided (x .outcome .refused) (answered .report)
-  decision-is right = answered .decision ∙ ap (λ (n : ℕ). decided n (answered .report)) (refusal-is right)
+  accepted-is : Right x → x .outcome .refused ≡ 0 → given ≡ answer.Accepted (answered .report)
+  accepted-is right accepted =
+      accepted-by given (answered .report) (answered .values ∙ ap (λ (n : ℕ). valuesAt n (reportValues (answered .report))) (refusal-is right ∙ accepted))
 
   -- a slot of the board that the sample says is closed is struck
   strikes : Right x → (c t : ℕ) → c < 32 → t < 32 → OnBoard (ledgerLast x .board) c t → T (not (in? (x .outcome .left) c t)) → Struck (ledgerLast x .board) (markOf (s′ .slots)) c t
@@ -135,7 +136,7 @@ module _ (x : Sample) (s : State) (given : Answer) (s′ : State) (last : Last x
   told : (value : Report → ℕ) (n : ℕ) → ((r : Report) → ReportsOf (readAt (x .last) 0 .read) (s .slots) (s′ .slots) r → value r ≡ n) → Right x → x .outcome .refused ≡ 0
       → (r : Report) → given ≡ answer.Accepted r → value r ≡ n
   told value n says right accepted r e =
-      let d : given ≡ decided 0 (answered .report) = decision-is right ∙ ap (λ (m : ℕ). decided m (answered .report)) accepted in
+      let d = accepted-is right accepted in
       let q : answered .report ≡ r = cc in
       rw q at (says (answered .report) (answered .reported (refusal-is right ∙ accepted)))
 
@@ -162,7 +163,7 @@ module _ (s : State) (given : Answer) (s′ : State) where
   -- A BOARD THAT REFUSES ALL COMMANDS
   pub not-refusing : Last p1 s given s′ → (n : ℕ) → given ≡ answer.Refused n → ⊥
   not-refusing last n e =
-      let d : given ≡ answer.Accepted (answered p1 s given s′ last .report) = decision-is p1 s given s′ last right-p1 in
+      let d = accepted-is p1 s given s′ last right-p1 refl in
       let z : _≡_ {A = ℕ} 0 1 = cc in
       omega arith
 
@@ -181,16 +182,16 @@ module _ (s : State) (given : Answer) (s′ : State) where
       let L = ledgerLast p5 in
       let shape = shape-after p5 s given s′ last in
       let rep = after p5 s given s′ last in
-      let lengths-right = lent-after p5 s given s′ last in
-      let e : shown ≡ slots.Mask (maskOf 32 (open? (s′ .slots) 0)) (count 32 (open? (s′ .slots) 0)) = m .decision L shape rep ∙ ap (answer-at 0) lengths-right in
-      let e′ : shown ≡ slots.Mask (maskOf 32 (open? (s′ .slots) 1)) (count 32 (open? (s′ .slots) 1)) = m′ .decision L shape rep ∙ ap (answer-at 1) lengths-right in
-      let zero-mask : maskOf 32 (open? (s′ .slots) 0) ≡ 0 = mask-same 32 (open? (s′ .slots) 0) (in? (openOf (L .board)) 0) (λ t h. now-is p5 s given s′ last 0 t (lit< tt) h) in
-      let full-mask : maskOf 32 (open? (s′ .slots) 1) ≡ 3 = mask-same 32 (open? (s′ .slots) 1) (in? (openOf (L .board)) 1) (λ t h. now-is p5 s given s′ last 1 t (lit< tt) h) in
-      let z : _≡_ {A = ℕ} 0 3 = sym zero-mask ∙ ap (λ (o : OpenSlots). getD (slotsValues o) 0 0) (sym e ∙ e′) ∙ full-mask in
+      let same = lent-after p5 s given s′ last in
+      let e : slotsValues shown ≡ values-at 0 lengths = m L shape rep .values ∙ ap (values-at 0) same in
+      let e′ : slotsValues shown ≡ values-at 1 lengths = m′ L shape rep .values ∙ ap (values-at 1) same in
+      let empty : maskOf 32 (open? (s′ .slots) 0) ≡ 0 = mask-same 32 (open? (s′ .slots) 0) (in? (openOf (L .board)) 0) (λ t h. now-is p5 s given s′ last 0 t (lit< tt) h) in
+      let full : maskOf 32 (open? (s′ .slots) 1) ≡ 3 = mask-same 32 (open? (s′ .slots) 1) (in? (openOf (L .board)) 1) (λ t h. now-is p5 s given s′ last 1 t (lit< tt) h) in
+      let z : _≡_ {A = ℕ} 0 3 = sym empty ∙ ap (λ (l : List ℕ). getD l 0 0) (sym e ∙ e′) ∙ full in
       omega arith
     where
-      answer-at : ℕ → Lent → OpenSlots
-      answer-at c l = slotsDecided (firstOf (slotsConditions (ledgerLast p5) l c)) (maskOf 32 (open? (s′ .slots) c)) (count 32 (open? (s′ .slots) c))
+      values-at : ℕ → Lent → List ℕ
+      values-at c l = valuesAt (firstOf (slotsConditions (ledgerLast p5) l c)) (maskOf 32 (open? (s′ .slots) c) ∷ count 32 (open? (s′ .slots) c) ∷ [])
 
   -- ONE THAT IGNORES LIFTS
   pub not-ignoring-lifts : Last p6 s given s′ → s′ .slots ≡ s .slots → ⊥
@@ -230,7 +231,7 @@ module _ (s : State) (given : Answer) (s′ : State) where
   unfolding counts?
   not-none-with-support last m =
       let L = ledgerLast p1 in
-      m .means L (shape-after p1 s given s′ last) (after p1 s given s′ last) (ap (λ (l : Lent). firstOf (supportConditions L l 0 0 0)) (lent-after p1 s given s′ last)) 0 (lit< tt)
+      m L (shape-after p1 s given s′ last) (after p1 s given s′ last) .means (ap (λ (l : Lent). firstOf (supportConditions L l 0 0 0)) (lent-after p1 s given s′ last)) 0 (lit< tt)
       (λ k n. found-viable (L .board) (callAt (ruleAt (L .board) 0) k) (slotAt (ruleAt (L .board) 0) 0 k) .0 (within→ (L .board) (ruleAt (L .board) 0) (openOf (L .board)) 0 tt k n)) refl
 
   -- THE WRONG TURNS. "in P4 each of two slots waits for the other and both stay struck"
