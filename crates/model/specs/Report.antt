@@ -67,18 +67,21 @@ pub record Silent (r : Report) : Type 0 where
   pub reopened : r .reopened ≡ 0
   pub touched : r .touched ≡ 0
 
--- "For a put, R is 0 and T equals S."
-pub record PutReport (before after : List ℕ) (r : Report) : Type 0 where
+-- S and R are the slots that changed
+pub record Changed (before after : List ℕ) (r : Report) : Type 0 where
   pub struck : r .struck ≡ struckBetween before after
   pub reopened : r .reopened ≡ reopenedBetween before after
-  pub none-back : r .reopened ≡ 0
+
+-- "For a put, R is 0 and T equals S."
+pub record PutReport (before after : List ℕ) (r : Report) : Type 0 where
+  pub changed : Changed before after r
+  pub none-reopened : r .reopened ≡ 0
   pub touched : r .touched ≡ r .struck
 
 -- "For a lift, S is 0, and T is at least R and at most the number of slots struck beforehand."
 pub record LiftReport (before after : List ℕ) (r : Report) : Type 0 where
-  pub struck : r .struck ≡ struckBetween before after
-  pub reopened : r .reopened ≡ reopenedBetween before after
-  pub none-lost : r .struck ≡ 0
+  pub changed : Changed before after r
+  pub none-struck : r .struck ≡ 0
   pub least : r .reopened ≤ r .touched
   pub most : r .touched ≤ struckIn before
 

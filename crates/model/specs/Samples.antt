@@ -181,6 +181,13 @@ p12 =
 abbrev pub samples : List Sample
 samples = p1 ∷ p2 ∷ p3 ∷ p4Put ∷ p4Lift ∷ p4Again ∷ p5 ∷ p6 ∷ p7 ∷ p8 ∷ p9 ∷ p10 ∷ p11 ∷ p12 ∷ []
 
+-- WHAT REFUSES BYTES FOR THEIR FORM: no byte, a kind past 5, bodies cut short, bytes left over
+abbrev pub forms : List (List ℕ)
+forms = [] ∷ (6 ∷ []) ∷ (5 ∷ []) ∷ take 32 (boardBytes (1 ∷ [])) ∷ (4 ∷ 0 ∷ []) ∷ []
+
+abbrev pub formNumbers : List ℕ
+formNumbers = 3 ∷ 3 ∷ 4 ∷ 4 ∷ 4 ∷ []
+
 -- P4's input and output, whole, as bytes
 abbrev pub joined : List (List ℕ) → List ℕ
 joined [] = []

@@ -2,8 +2,9 @@
 use mathlib.Core.Path.{_≡_, refl, ap}
 use mathlib.Core.List.{List, [], _∷_, map}
 use Rattle.model.specs.Board.{counts?}
+use Rattle.model.specs.Ledger.{fresh, refusal}
 use Rattle.model.specs.Sheet.{sheetOf}
-use Rattle.model.specs.Samples.{Outcome, Sample, outcomeOf, ledgerLast, Right, AllRight, samples, p4Input, p4Output}
+use Rattle.model.specs.Samples.{Outcome, Sample, outcomeOf, ledgerLast, Right, AllRight, samples, lengths, forms, formNumbers, p4Input, p4Output}
 use Rattle.model.specs.Laws.Filter.{found-viable}
 
 right : (x : Sample) → outcomeOf x ≡ x .outcome → Right x
@@ -16,6 +17,9 @@ all-right (x ∷ xs) e = (right x (cc), all-right xs (cc))
 pub samples-right : AllRight samples
 unfolding counts?
 samples-right = all-right samples refl
+
+pub forms-refused : map (refusal fresh lengths) forms ≡ formNumbers
+forms-refused = refl
 
 -- the worked session's sheet, byte for byte
 pub p4-sheet : sheetOf p4Input ≡ p4Output

@@ -216,13 +216,13 @@ module _ (s : State) (given : Answer) (s′ : State) where
   pub not-inventing-struck : Last p1 s given s′ → (r : Report) → given ≡ answer.Accepted r → r .struck ≢ 2 → ⊥
   not-inventing-struck last r e wrong =
       wrong (told p1 s given s′ last (λ r. r .struck) 2
-      (λ r w. w .struck ∙ struck-between (ledgerBefore p1) (ledgerLast p1) s s′ (is p1 s given s′ last .1) (after p1 s given s′ last) ∙ ap (λ (o : Outcome). o .struck) (right-p1 .outcome))
+      (λ r w. w .changed .struck ∙ struck-between (ledgerBefore p1) (ledgerLast p1) s s′ (is p1 s given s′ last .1) (after p1 s given s′ last) ∙ ap (λ (o : Outcome). o .struck) (right-p1 .outcome))
       right-p1 refl r e)
 
   pub not-inventing-reopened : Last p3 s given s′ → (r : Report) → given ≡ answer.Accepted r → r .reopened ≢ 4 → ⊥
   not-inventing-reopened last r e wrong =
       wrong (told p3 s given s′ last (λ r. r .reopened) 4
-      (λ r w. w .reopened ∙ reopened-between (ledgerBefore p3) (ledgerLast p3) s s′ (is p3 s given s′ last .1) (after p3 s given s′ last) refl
+      (λ r w. w .changed .reopened ∙ reopened-between (ledgerBefore p3) (ledgerLast p3) s s′ (is p3 s given s′ last .1) (after p3 s given s′ last) refl
       ∙ ap (λ (o : Outcome). o .reopened) (right-p3 .outcome))
       right-p3 refl r e)
 
