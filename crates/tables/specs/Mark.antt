@@ -59,6 +59,23 @@ module _ {A : Type 0} (d v : A) (Free : A → Type 0) where
   pub mark-stays : (Q : ℕ → Type 0) (a b : List A) (j : ℕ) → Marked d v Free Q a b → getD a j d ≡ v → getD b j d ≡ v
   mark-stays Q a b j m e = ⊎-elim (λ s. s ∙ e) (λ t. t .1) (m .each j)
 
+  -- one set after another is both
+  pub mark-both : (P Q : ℕ → Type 0) (a b c : List A) → Marked d v Free P a b → Marked d v Free Q b c → Marked d v Free (λ j. P j ⊎ Q j) a c
+  mark-both P Q a b c m n =
+      record {
+        len = n .len ∙ m .len;
+        written = λ j x f.
+            ⊎-elim
+            (λ p. mark-stays Q b c j n (m .written j p f))
+            (λ q. ⊎-elim (λ s. n .written j q (rw s f)) (λ t. mark-stays Q b c j n (t .1)) (m .each j))
+            x;
+        each = λ j.
+            ⊎-elim
+            (λ s. ⊎-elim (λ r. inl (s ∙ r)) (λ t. inr (t .0, s ∙ t .1, inl (t .2))) (m .each j))
+            (λ u. ⊎-elim (λ r. inr (rw r at (u .0), u .1, inr (u .2))) (λ t. inr (t .0, u .1, inl (t .2))) (m .each j))
+            (n .each j);
+      }
+
   module _ (Q : ℕ → ℕ → Type 0) where
     -- before the first turn
     pub mark-none : (l : List A) → Marked d v Free (Below Q 0) l l
@@ -67,30 +84,13 @@ module _ {A : Type 0} (d v : A) (Free : A → Type 0) where
     -- one turn more, that writes one set more
     pub mark-more : (n : ℕ) (a b c : List A) → Marked d v Free (Below Q n) a b → Marked d v Free (Q n) b c → Marked d v Free (Below Q (n + 1)) a c
     mark-more n a b c p q =
-        record {
-          len = q .len ∙ p .len;
-          written = λ j x f.
-              let lt = x .1 in
-              let le : x .0 ≤ n = omega arith in
-              ⊎-elim
-              (λ (e : x .0 ≡ n).
-              ⊎-elim (λ s. q .written j (rw e at (x .2)) (rw s f)) (λ t. mark-stays (Q n) b c j q (t .1)) (p .each j))
-              (λ (h : x .0 < n). mark-stays (Q n) b c j q (p .written j (x .0, h, x .2) f))
-              (eq-or-lt-of-le le);
-          each = λ j.
-              ⊎-elim
-              (λ s.
-              ⊎-elim
-              (λ r. inl (s ∙ r))
-              (λ t. inr (t .0, s ∙ t .1, (t .2 .0, (let z = t .2 .1 in omega arith), t .2 .2)))
-              (p .each j))
-              (λ u.
-              ⊎-elim
-              (λ r. inr (rw r at (u .0), u .1, (n, omega arith, u .2)))
-              (λ t. inr (t .0, u .1, (t .2 .0, (let z = t .2 .1 in omega arith), t .2 .2)))
-              (p .each j))
-              (q .each j);
-        }
+        mark-same _ (Below Q (n + 1))
+        (λ j x.
+        let lt = x .1 in
+        let le : x .0 ≤ n = omega arith in
+        ⊎-elim (λ (e : x .0 ≡ n). inr (rw e at (x .2))) (λ (h : x .0 < n). inl (x .0, h, x .2)) (eq-or-lt-of-le le))
+        (λ j x. ⊎-elim (λ y. let lt = y .1 in (y .0, omega arith, y .2)) (λ y. (n, omega arith, y)) x)
+        (mark-both (Below Q n) (Q n) a b c p q)
 
     -- after the last turn, where the loop's test says that n is m
     pub mark-at : {n m : ℕ} {a b : List A} → Marked d v Free (Below Q n) a b → n ≤ m → m ≤ n → Marked d v Free (Below Q m) a b
