@@ -1,4 +1,5 @@
 pub mod Layout
+pub mod Bounds
 pub mod Rows
 pub mod Strikes
 pub mod Queue

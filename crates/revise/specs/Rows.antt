@@ -1,15 +1,15 @@
 -- What the walk over a rule's rows does: a living row with a struck slot is killed, and the slots of a row that goes on living are supported.
-use mathlib.Core.Path.{_≡_, refl, sym, _∙_}
+use mathlib.Core.Path.{_≡_, sym, _∙_}
 use mathlib.Core.List.{List}
-use mathlib.Core.Logic.{_⊎_, inl, inr, ⊎-elim}
+use mathlib.Core.Logic.{_⊎_, ⊎-elim}
 use mathlib.Core.Bool.{Bool, true, false}
-use Prim.Native.Nat.{ℕ, _+_, _*_, _%_, _≤_, _<_}
+use Prim.Native.Nat.{ℕ, _+_, _*_, _≤_, _<_}
 use native.Mathlib.Omega.{arith}
-use lib.ListN.{length, getD}
+use lib.ListN.{getD}
 use Rattle.tables.specs.Facts.{true-false, eq-or-ne}
 use Rattle.tables.specs.Sweep.{One, Swept, swept-none, swept-more, swept-at}
-use Rattle.tables.specs.Mark.{Marked, Flagged, Any, Below, mark-none, mark-more, mark-same, mark-at}
-use Rattle.revise.specs.Layout.{callOf, slotOf, killerOf, placeOf}
+use Rattle.tables.specs.Mark.{Flagged, Any, Below, mark-none, mark-more, mark-same, mark-at}
+use Rattle.revise.specs.Layout.{slotOf, killerOf, placeOf}
 
 -- column k of row w of rule p holds a struck slot
 abbrev pub Struck : List ℕ → List ℕ → List ℕ → ℕ → ℕ → ℕ → Type 0

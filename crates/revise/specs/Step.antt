@@ -1,9 +1,9 @@
 -- A revision of one rule, and a step of propagate: a pending rule is revised, and the other rules on a call where a slot was struck become pending.
-use mathlib.Core.Path.{_≡_, refl, sym, ap, _∙_}
+use mathlib.Core.Path.{_≡_, ap, _∙_}
 use mathlib.Core.List.{List}
-use mathlib.Core.Logic.{_⊎_, inl, inr, ⊎-elim}
+use mathlib.Core.Logic.{_⊎_, ⊎-elim}
 use mathlib.Core.Bool.{Bool, true, false}
-use Prim.Native.Nat.{ℕ, _+_, _*_, _%_, _≤_, _<_}
+use Prim.Native.Nat.{ℕ, _+_, _*_, _<_}
 use native.Mathlib.Omega.{arith}
 use lib.ListN.{length, getD, set, replicate, length-set, getD-replicate}
 use lib.Seq.{ext-getD}
@@ -11,17 +11,17 @@ use Rattle.tables.specs.Facts.{eq-or-ne, true-or-false}
 use Rattle.tables.specs.Sweep.{Swept}
 use Rattle.tables.specs.Mark.{Flagged, Any, Below, mark-keep}
 use Rattle.tables.specs.Count.{bit, count, count-le, count-set}
-use Rattle.revise.specs.Layout.{RuleBytes, Progress, reached, columnsOf, manyOf}
+use Rattle.revise.specs.Layout.{RuleBytes, Progress, reached, columnsOf, rowsOf}
 use Rattle.revise.specs.Rows.{Killed, Unsupported, RowsRevised, supported-true, supported-false}
 use Rattle.revise.specs.Strikes.{isOpen, Strikes, ColumnWith, Unmarked, Changed, ColumnsStruck, strikes-same, strikes-zero}
 use Rattle.revise.specs.Queue.{Enqueued, IsFlagged, enqueued-same}
 
 -- rule p is revised: its living rows with a struck slot are killed, and then its r open slots without a support are struck
 pub record Revised (R : RuleBytes) (p r : ℕ) (killers killed slots struck : List ℕ) : Type 0 where
-  pub kills : Swept 0 (Killed (R .rows) slots (R .calls) p (columnsOf (R .arity) p)) (64 * p) (manyOf (R .lengths) p) killers killed
+  pub kills : Swept 0 (Killed (R .rows) slots (R .calls) p (columnsOf (R .arity) p)) (64 * p) (rowsOf (R .lengths) p) killers killed
   pub strikes :
       Strikes
-      (Below (ColumnWith (Unsupported (R .rows) killed p (manyOf (R .lengths) p)) (R .calls) p) (columnsOf (R .arity) p))
+      (Below (ColumnWith (Unsupported (R .rows) killed p (rowsOf (R .lengths) p)) (R .calls) p) (columnsOf (R .arity) p))
       p
       r
       slots
@@ -48,7 +48,7 @@ remaining x = 65 * count isOpen (x .slots) + count isPending (x .pending)
 
 -- the walk over the rows, then the strikes by its table: the slots that are not in the table are those without a support
 module _ (R : RuleBytes) (p : ℕ) {r : ℕ} (killers killed slots struck : List ℕ) (table changed after : List Bool) where
-  revision-is : RowsRevised (R .rows) slots (R .calls) p (columnsOf (R .arity) p) (manyOf (R .lengths) p) killers killed (replicate 128 false) table
+  revision-is : RowsRevised (R .rows) slots (R .calls) p (columnsOf (R .arity) p) (rowsOf (R .lengths) p) killers killed (replicate 128 false) table
       → ColumnsStruck table (R .calls) p (columnsOf (R .arity) p) r slots struck changed after → Revision R p r killers killed slots struck changed after
   revision-is v w =
       record {
@@ -63,14 +63,14 @@ module _ (R : RuleBytes) (p : ℕ) {r : ℕ} (killers killed slots struck : List
         flags = w .flags;
       }
     where
-      unmarked : (k s : ℕ) → k < columnsOf (R .arity) p → s < 32 → Unsupported (R .rows) killed p (manyOf (R .lengths) p) k s → Unmarked table k s
+      unmarked : (k s : ℕ) → k < columnsOf (R .arity) p → s < 32 → Unsupported (R .rows) killed p (rowsOf (R .lengths) p) k s → Unmarked table k s
       unmarked k s lk ls absent =
           ⊎-elim
           (λ e. absurd (absent (supported-true _ _ _ p _ _ (omega arith) killers killed _ _ v k s lk ls (getD-replicate 128 (32 * k + s) false false (omega arith)) e)))
           (λ e. e)
           (true-or-false (getD table (32 * k + s) false))
 
-  pub revision-from : {n m : ℕ} → n ≡ columnsOf (R .arity) p → m ≡ manyOf (R .lengths) p → RowsRevised (R .rows) slots (R .calls) p n m killers killed (replicate 128 false) table
+  pub revision-from : {n m : ℕ} → n ≡ columnsOf (R .arity) p → m ≡ rowsOf (R .lengths) p → RowsRevised (R .rows) slots (R .calls) p n m killers killed (replicate 128 false) table
       → ColumnsStruck table (R .calls) p n r slots struck changed after → Revision R p r killers killed slots struck changed after
   revision-from en em v w = revision-is (rw (en, em) at v) (rw en at w)
 

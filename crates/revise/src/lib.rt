@@ -6,10 +6,10 @@ pub mod strikes; // striking the slots without a support
 pub mod queue; // the pending rules
 
 ghost use mathlib.Core.Path.{_≡_};
-ghost use mathlib.Core.Bool.{true, false};
 ghost use Prim.Native.Nat.{_<_};
-ghost use lib.ListN.{length, getD};
-ghost use Rattle.revise.specs.Layout.{Sizes, rules, reached};
+ghost use lib.ListN.{length};
+ghost use Rattle.revise.specs.Layout.{rules, reached};
+ghost use Rattle.revise.specs.Bounds.{Sizes, PendingRule};
 ghost use Rattle.revise.specs.Step.{Revision, Stepped};
 ghost use Rattle.revise.specs.Steps.{Propagated};
 
@@ -26,7 +26,8 @@ pub fn revise(
     p: usize,
 ) -> usize
     requires { ⌜ Sizes (now rows) (now killers) (now slots) ⌝ }
-    requires { ⌜ (p < 64) × (length (now changed) ≡ 32) ⌝ }
+    requires { ⌜ p < 64 ⌝ }
+    requires { ⌜ length (now changed) ≡ 32 ⌝ }
     ensures { λ r. ⌜ Revision (rules (now (rows .entry)) (now (arity .entry)) (now (calls .entry)) (now (lengths .entry))) p r (now (killers .entry)) (now (killers .exit)) (now (slots .entry)) (now (slots .exit)) (now (changed .entry)) (now (changed .exit)) ⌝ }
 {
     let n = layout::cap(arity[p], 4);
@@ -49,7 +50,7 @@ pub fn step(
     p: usize,
 ) -> usize
     requires { ⌜ Sizes (now rows) (now killers) (now slots) ⌝ }
-    requires { ⌜ (p < 64) × (length (now pending) ≡ 64) × (getD (now pending) p false ≡ true) ⌝ }
+    requires { ⌜ PendingRule (now pending) p ⌝ }
     ensures { λ r. ⌜ Stepped (rules (now (rows .entry)) (now (arity .entry)) (now (calls .entry)) (now (lengths .entry))) p r (reached (now (killers .entry)) (now (slots .entry)) (now (pending .entry))) (reached (now (killers .exit)) (now (slots .exit)) (now (pending .exit))) ⌝ }
 {
     pending[p] = false;

@@ -3,7 +3,7 @@
 ghost use mathlib.Core.Path.{_≡_};
 ghost use lib.ListN.{length};
 ghost use Rattle.tables.specs.Mark.{Flagged, Below};
-ghost use Rattle.revise.specs.Layout.{InRow, InRule};
+ghost use Rattle.revise.specs.Bounds.{InRow, InRule, RowTables};
 ghost use Rattle.revise.specs.Rows.{FirstStruck, InColumn, RowRevised, RowsRevised};
 
 // The first of n columns of row w that holds a struck slot, or n.
@@ -56,7 +56,7 @@ pub fn revise_row(
     n: usize,
 )
     requires { ⌜ InRow (now rows) p w n ⌝ }
-    requires { ⌜ (length (now slots) ≡ 1024) × (length (now killers) ≡ 4096) × (length (now supported) ≡ 128) ⌝ }
+    requires { ⌜ RowTables (now slots) (now killers) (now supported) ⌝ }
     ensures { λ _. ⌜ RowRevised (now (rows .entry)) (now (slots .entry)) (now (calls .entry)) p n w (now (killers .entry)) (now (killers .exit)) (now (supported .entry)) (now (supported .exit)) ⌝ }
 {
     if killers[64 * p + w] == 255 {
@@ -81,7 +81,7 @@ pub fn revise_rows(
     m: usize,
 )
     requires { ⌜ InRule (now rows) p m n ⌝ }
-    requires { ⌜ (length (now slots) ≡ 1024) × (length (now killers) ≡ 4096) × (length (now supported) ≡ 128) ⌝ }
+    requires { ⌜ RowTables (now slots) (now killers) (now supported) ⌝ }
     ensures { λ _. ⌜ RowsRevised (now (rows .entry)) (now (slots .entry)) (now (calls .entry)) p n m (now (killers .entry)) (now (killers .exit)) (now (supported .entry)) (now (supported .exit)) ⌝ }
 {
     let mut w = 0;

@@ -1,8 +1,7 @@
 // Striking: the open slots on a rule's calls that are not in the table of supported slots become struck, with the rule as
 // their cause. Each function returns how many it struck.
-ghost use mathlib.Core.Path.{_≡_};
-ghost use Prim.Native.Nat.{_≤_, _<_};
-ghost use lib.ListN.{length};
+ghost use Prim.Native.Nat.{_<_};
+ghost use Rattle.revise.specs.Bounds.{InCall, InColumns};
 ghost use Rattle.revise.specs.Strikes.{Strikes, SlotWith, CallWith, Unmarked, ColumnsStruck};
 
 // Strikes slot s of call c where it is open and column k does not support it.
@@ -14,7 +13,8 @@ pub fn strike_slot(
     k: usize,
     s: usize,
 ) -> usize
-    requires { ⌜ (length (now slots) ≡ 1024) × (p < 64) × (c < 32) × (k < 4) × (s < 32) ⌝ }
+    requires { ⌜ InCall (now slots) p c k ⌝ }
+    requires { ⌜ s < 32 ⌝ }
     ensures { λ r. ⌜ Strikes (SlotWith (Unmarked (now (supported .entry)) k) c s) p r (now (slots .entry)) (now (slots .exit)) ⌝ }
 {
     if slots[32 * c + s] == 255 {
@@ -31,7 +31,7 @@ pub fn strike_slot(
 
 // The same for all 32 slots of call c.
 pub fn strike_column(slots: &mut [u8], supported: &[bool; 128], p: u8, c: usize, k: usize) -> usize
-    requires { ⌜ (length (now slots) ≡ 1024) × (p < 64) × (c < 32) × (k < 4) ⌝ }
+    requires { ⌜ InCall (now slots) p c k ⌝ }
     ensures { λ r. ⌜ Strikes (CallWith (Unmarked (now (supported .entry)) k) c) p r (now (slots .entry)) (now (slots .exit)) ⌝ }
 {
     let mut total = 0;
@@ -53,7 +53,7 @@ pub fn strike_columns(
     p: u8,
     n: usize,
 ) -> usize
-    requires { ⌜ (length (now slots) ≡ 1024) × (length (now changed) ≡ 32) × (p < 64) × (n ≤ 4) ⌝ }
+    requires { ⌜ InColumns (now slots) (now changed) p n ⌝ }
     ensures { λ r. ⌜ ColumnsStruck (now (supported .entry)) (now (calls .entry)) p n r (now (slots .entry)) (now (slots .exit)) (now (changed .entry)) (now (changed .exit)) ⌝ }
 {
     let mut total = 0;

@@ -1,5 +1,5 @@
 -- The loop has found no struck slot in the columns that it passed.
-use Prim.Native.Nat.{ℕ, _≤_, _<_, _-_}
+use Prim.Native.Nat.{_≤_, _-_}
 use native.Mathlib.Omega.{arith}
 use borrow.Author.Count.{below-more}
 use Rattle.revise.specs.Rows.{NoneStruck}

@@ -1,10 +1,7 @@
 -- One column more is treated in each turn, and its call is flagged exactly where a slot of it was struck.
-use mathlib.Core.Path.{refl}
-use mathlib.Core.Bool.{true, false}
 use mathlib.Core.Logic.{⊎-elim}
 use Prim.Native.Nat.{_≤_, _-_}
 use native.Mathlib.Omega.{arith}
-use Rattle.tables.specs.Mark.{Any, mark-keep}
 use Rattle.revise.specs.Strikes.{ColumnsStruck, strikes-fit, columns-none, columns-set, columns-keep, columns-at}
 use borrow.Author.Needs.{needs}
 use Rattle.revise.proofs.strikes.strike_columns.Statement.{statement}
