@@ -39,10 +39,10 @@ pub record Stepped (R : RuleBytes) (p r : ℕ) (x y : Progress) : Type 0 where
   pub revised : Revised R p r (x .killers) (y .killers) (x .slots) (y .slots)
   pub queue : Flagged (Below (Enqueued (Changed (x .slots) (y .slots)) (R .arity) (R .calls) p) 64) (set (x .pending) p false) (y .pending)
 
--- the measure of propagate: a step strikes a slot, or leaves one rule less pending
 abbrev pub isPending : Bool → Bool
 isPending b = b
 
+-- the measure of propagate: a step strikes a slot, which may make all 64 rules pending, or it leaves one rule less pending
 abbrev pub remaining : Progress → ℕ
 remaining x = 65 * count isOpen (x .slots) + count isPending (x .pending)
 

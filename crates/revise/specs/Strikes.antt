@@ -128,9 +128,11 @@ module _ (N : ℕ → Type 0) (c p : ℕ) (lp : p < 64) {Q : ℕ → Type 0} {h 
       (λ m. inl (s, ls, o, m))
       (eq-or-ne (getD mid (32 * e + s) 0) 255)
 
+  -- one that had changed has
   stays : (e : ℕ) → Changed old mid e → Changed old new e
   stays e (s, ls, o, n) = (s, ls, o, λ m. n (was-open lp y (32 * e + s) m))
 
+  -- and so has c, where a slot of it is struck
   here : 0 < r → Changed old new c
   here lt =
       let t = strikes-some lp y lt in

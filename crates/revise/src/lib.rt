@@ -38,7 +38,7 @@ pub fn revise(
 }
 
 // One step: the pending rule p is revised, and the other rules on a call where a slot was struck become pending. Rule p
-// itself is stable now, since no living row of it holds a slot that it struck.
+// itself need not: where its calls are different, no living row of it holds a slot that it struck.
 pub fn step(
     rows: &[u8],
     killers: &mut [u8],

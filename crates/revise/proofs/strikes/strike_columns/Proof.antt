@@ -49,7 +49,7 @@ loop-again c =
     let r = c .before .before .before .strike-column .ensures in (
       omega arith,
       ⊎-elim
-          (λ w. rw (w .1) (columns-set _ _ _ _ (omega arith) l r (w .0 .taken) (omega arith)))
+          (λ w. let z = w .0 .taken in rw (w .1) (columns-set _ _ _ _ (omega arith) l r (omega arith) (omega arith)))
           (λ w. let z = w .0 .left in rw (w .1) (columns-keep _ _ _ _ (omega arith) l r (omega arith)))
           (c .if1 .came),
     )
