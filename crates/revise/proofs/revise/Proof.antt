@@ -34,8 +34,8 @@ same-length-2 c = search needs
 returns : tie.Need-returns
 returns c =
     let walk = c .before .before .before .before .before .before .before .before in
-    let n = c .before .before .before .before .before .before .before .before .before .before .before .before .before .before .cap .ensures in
-    let m = c .before .before .before .before .before .before .before .before .before .before .before .before .cap2 .ensures in
+    let n = walk .before .before .before .before .before .before .cap .ensures in
+    let m = walk .before .before .before .before .cap2 .ensures in
     revision-from _ _ _ _ _ _ _ _ _ n m (walk .revise-rows .ensures) (c .before .before .strike-columns .ensures)
 
 pub revise-spec : {M : Type 1} → statement M
