@@ -1,0 +1,5 @@
+pub mod Facts
+pub mod Sweep
+pub mod Mark
+pub mod Count
+pub mod Lost
