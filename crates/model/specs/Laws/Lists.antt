@@ -1,7 +1,7 @@
 -- DEMAND 3 OVER WHOLE LISTS, from what each step keeps. The state after a list is the ledger's, so its records are right, and the rest is theory.
 -- Assumes nothing.
 use mathlib.Core.Path.{_≡_, refl, sym, ap, subst, _∙_}
-use mathlib.Core.Bool.{Bool, true, false, not, _&&_, cond}
+use mathlib.Core.Bool.{Bool, true, false, true≢false, not, _&&_, cond}
 use mathlib.Core.List.{List, [], _∷_, _++_}
 use mathlib.Core.Logic.{_⊎_, inl, inr}
 use Prim.Native.Nat.{ℕ, zero, suc, _<_}
@@ -19,7 +19,6 @@ use Rattle.model.specs.Report.{markOf}
 use Rattle.model.specs.Representation.{State, lentOf, killerOf, Represents, freshState}
 use Rattle.model.specs.Promise.{Promise, Answered}
 use Rattle.model.specs.Lists.{Runs, done, then, standing, Turn, Demand3, Demand3Two}
-use Rattle.model.specs.Laws.Tests.{clash}
 use Rattle.model.specs.Laws.Theory.{open-viable, struck-caused, row-records, no-ring, escape-from-all, plan-open, viable-mono}
 use Rattle.model.specs.Laws.Answers.{refused-by}
 use Rattle.model.specs.Laws.Shapes.{shape-step, shape-fresh}
@@ -116,9 +115,9 @@ right-lengths lent e = go (eqb (lent .rows) 16384) refl (eqb (lent .killers) 409
     go : (a : Bool) → eqb (lent .rows) 16384 ≡ a → (b : Bool) → eqb (lent .killers) 4096 ≡ b → (c : Bool) → eqb (lent .slots) 1024 ≡ c → not (a && b && c) ≡ false
         → (lent .rows ≡ 16384) × (lent .killers ≡ 4096) × (lent .slots ≡ 1024)
     go true p true q true r e = (eqb-true (lent .rows) 16384 p, eqb-true (lent .killers) 4096 q, eqb-true (lent .slots) 1024 r)
-    go true p true q false r e = clash e
-    go true p false q c r e = clash e
-    go false p b q c r e = clash e
+    go true p true q false r e = absurd (true≢false e)
+    go true p false q c r e = absurd (true≢false e)
+    go false p b q c r e = absurd (true≢false e)
 
 -- A MEMBER HANDED THE RIGHT LENGTHS is handed what stands, and what it leaves stands after it
 module _ (L : Ledger) (m : Member) (s s′ : State) (rep : Represents L s) (t : Turn m s s′) (good : badLent (m .lent) ≡ false) where

@@ -1,6 +1,6 @@
 -- EVERY COMMAND KEEPS THE LEDGER'S SHAPE, whatever its bytes, refused or accepted: what a rule of good shape asks is what the table checks. Assumes nothing.
 use mathlib.Core.Path.{_≡_, refl, sym, ap, _∙_}
-use mathlib.Core.Bool.{Bool, true, false, not, _&&_, _||_, cond}
+use mathlib.Core.Bool.{Bool, true, false, true≢false, not, _&&_, _||_, cond}
 use mathlib.Core.List.{List, [], _∷_, _++_}
 use mathlib.Core.Logic.{_≢_, _⊎_, inl, inr}
 use mathlib.Core.Option.{Option, none, some}
@@ -12,6 +12,7 @@ use lib.ListN.{length, getD, take, drop, set, replicate, length-set, length-take
 use lib.Seq.{getD-set-same, getD-set-other, getD-take, getD-append-seam, length-take-le}
 use lib.Dec.{T, eqb, ltb, leb}
 use borrow.Author.Tests.{ltb-true, ltb-false, leb-false, eqb-false, eq-eqb}
+use Rattle.tables.specs.Facts.{true-false}
 use Rattle.model.specs.declared.command.Head.{Head}
 use Rattle.model.specs.declared.command.Row.{Row}
 use Rattle.model.specs.declared.command.Command.{Command}
@@ -22,7 +23,7 @@ use Rattle.model.specs.Board.{Rule, Board, callAt, slotAt, InForce, Good
 use Rattle.model.specs.Tests.{some?, every?, isNone}
 use Rattle.model.specs.Commands.{isKind, bodyLength, commandAt, countsAt, without, readAt, callsOf, slotsOf}
 use Rattle.model.specs.Ledger.{NumberedRule, Ledger, LedgerShape, Lent, Member, bare, fresh, draftOr, firstOf, badLent, badCounts, badSpare, noBoard, badNumber, notInForce, kindConditions, formConditions, ownConditions, earlyConditions, conditions, refusal, upToZero, withRule, effect, readEffect, obey, step, stepBy, ledgerAfter, run}
-use Rattle.model.specs.Laws.Tests.{or-false, none-passes, →every, T→, →T, clash, none-some}
+use Rattle.model.specs.Laws.Tests.{or-false, none-passes, →every, T→, →T, none-some}
 
 -- A LIST OF CONDITIONS whose first number is 0: none of them holds
 abbrev pub Passed : List (Bool × ℕ) → Type 0
@@ -114,7 +115,7 @@ module _ (L : Ledger) (shape : LedgerShape L) where
     where
       go : (o : Option NumberedRule) → L .draft ≡ o → isNone o ≡ false
           → LedgerShape (record { board = withRule (L .board) (draftOr o .number) (some (draftOr o .rule)); draft = none })
-      go none e i = clash i
+      go none e i = absurd (true≢false i)
       go (some d) e i =
           let g = shape .draft d e in
           record {
@@ -193,9 +194,9 @@ module _ (L : Ledger) (shape : LedgerShape L) where
             w h;
         rows = snoc-apart (r .rows) (take a ss) (g .rows)
             (λ v h same.
-            clash (sym (T→ (every? a (λ k. eqb (slotAt r v k) (getD ss k 255)))
+            absurd (true-false (T→ (every? a (λ k. eqb (slotAt r v k) (getD ss k 255)))
             (→every a (λ k. eqb (slotAt r v k) (getD ss k 255)) (λ k h′. →T (eqb (slotAt r v k) (getD ss k 255)) (eq-eqb (slotAt r v k) (getD ss k 255) (rw same (getD-take a ss k 255 h′))))))
-            ∙ none-passes (length (r .rows)) (λ v. every? a (λ k. eqb (slotAt r v k) (getD ss k 255))) new v h));
+            (none-passes (length (r .rows)) (λ v. every? a (λ k. eqb (slotAt r v k) (getD ss k 255))) new v h)));
       }
 
   row-shape : (x : Row) (ns : List ℕ) → Passed (kindConditions L (kind.Row x) ns) → LedgerShape (effect L (kind.Row x) ns)
@@ -205,7 +206,7 @@ module _ (L : Ledger) (shape : LedgerShape L) where
       grown o = record { number = draftOr o .number; rule = record { calls = draftOr o .rule .calls; rows = draftOr o .rule .rows ++ (take (length (draftOr o .rule .calls)) (slotsOf x) ∷ []) } }
 
       go : (o : Option NumberedRule) → L .draft ≡ o → isNone o ≡ false → LedgerShape (record { board = L .board; draft = some (grown o) })
-      go none e i = clash i
+      go none e i = absurd (true≢false i)
       go (some d) e i =
           record { board = shape .board; draft = λ d′ h. let g : grown (some d) ≡ d′ = cc in rw (← g) (shape .draft d e .0, row-good d x ns e q) }
 

@@ -2,14 +2,13 @@
 use mathlib.Core.Path.{_≡_, refl, sym, ap, _∙_}
 use mathlib.Core.Bool.{Bool, true, false, not, _&&_, _||_, cond}
 use mathlib.Core.List.{List, [], _∷_}
-use mathlib.Core.Logic.{_⊎_, inl, inr}
+use mathlib.Core.Logic.{_⊎_, inl, inr, ⊎-elim}
 use mathlib.Core.Option.{Option, none, some}
 use Prim.Native.Nat.{ℕ, zero, suc, _<_, _≤_, _+_}
 use native.Mathlib.Omega.{arith}
 use native.Mathlib.Nat.{eq-or-lt-of-le, le-of-suc-le-suc}
-use native.Mathlib.Decide.{ℕ-discrete, decLt}
-use lib.Dec.{T, eqb, eqb→eq, eqb-refl, ltb}
-use borrow.Author.Tests.{ltb-true}
+use lib.Dec.{T, eqb, eqb→eq, eqb-refl}
+use Rattle.tables.specs.Facts.{true-false, lt-or-le}
 use Rattle.model.specs.Tests.{some?, every?, count, has, keepOnly, upFrom, isNone}
 
 -- joined tests
@@ -45,9 +44,6 @@ pub not→ : (b : Bool) → (T b → ⊥) → b ≡ false
 not→ true n = absurd (n tt)
 not→ false n = refl
 
-pub clash : {A : Type 0} → true ≡ false → A
-clash e = let z : _≡_ {A = ℕ} 0 1 = cc in absurd (omega arith)
-
 -- two tests that pass together are equal
 pub same-test : (a b : Bool) → (T a → T b) → (T b → T a) → a ≡ b
 same-test true true f g = refl
@@ -63,39 +59,8 @@ pub T? : (b : Bool) → T b ⊎ (T b → ⊥)
 T? true = inl tt
 T? false = inr (λ t. t)
 
-pub both? : {A B : Type 0} → A ⊎ (A → ⊥) → B ⊎ (B → ⊥) → (A × B) ⊎ (A × B → ⊥)
-both? (inl a) (inl b) = inl (a, b)
-both? (inl a) (inr n) = inr (λ t. n (t .1))
-both? (inr n) d = inr (λ t. n (t .0))
-
-pub ≡? : (a b : ℕ) → (a ≡ b) ⊎ (a ≡ b → ⊥)
-≡? a b = go (ℕ-discrete a b)
-  where
-    go : Dec (a ≡ b) → (a ≡ b) ⊎ (a ≡ b → ⊥)
-    go (yes e) = inl e
-    go (no n) = inr n
-
 pub <? : (a b : ℕ) → (a < b) ⊎ (a < b → ⊥)
-<? a b = go (decLt a b)
-  where
-    go : Dec (a < b) → (a < b) ⊎ (a < b → ⊥)
-    go (yes e) = inl e
-    go (no n) = inr n
-
--- a number below n that has the property, or none has it
-pub below? : (P : ℕ → Type 0) → ((i : ℕ) → P i ⊎ (P i → ⊥)) → (n : ℕ) → ((i : ℕ) × (i < n) × P i) ⊎ ((i : ℕ) → i < n → P i → ⊥)
-below? P test zero = inr (λ i h p. omega arith)
-below? P test (suc n) = go (test n) (below? P test n)
-  where
-    last : (i : ℕ) → P i → (P n → ⊥) → ((i : ℕ) → i < n → P i → ⊥) → (i ≡ n) ⊎ (i < n) → ⊥
-    last i p np all (inl e) = np (rw e at p)
-    last i p np all (inr h) = all i h p
-
-    go : P n ⊎ (P n → ⊥) → ((i : ℕ) × (i < n) × P i) ⊎ ((i : ℕ) → i < n → P i → ⊥)
-        → ((i : ℕ) × (i < suc n) × P i) ⊎ ((i : ℕ) → i < suc n → P i → ⊥)
-    go d (inl (t)) = inl (t .0, omega arith, t .2)
-    go (inl p) (inr all) = inl (n, omega arith, p)
-    go (inr np) (inr all) = inr (λ i h p. last i p np all (eq-or-lt-of-le (le-of-suc-le-suc h)))
+<? a b = ⊎-elim (λ h. inl h) (λ h. inr (λ l. omega arith)) (lt-or-le a b)
 
 -- some and every
 pub some→ : (n : ℕ) (f : ℕ → Bool) → T (some? n f) → (i : ℕ) × (i < n) × T (f i)
@@ -115,7 +80,7 @@ pub →some : (n : ℕ) (f : ℕ → Bool) (i : ℕ) → i < n → T (f i) → T
     go ih (inr h) = inl (ih h)
 
 pub none-passes : (n : ℕ) (f : ℕ → Bool) → some? n f ≡ false → (i : ℕ) → i < n → f i ≡ false
-none-passes n f e i h = not→ (f i) (λ t. clash (sym (T→ (some? n f) (→some n f i h t)) ∙ e))
+none-passes n f e i h = not→ (f i) (λ t. true-false (T→ (some? n f) (→some n f i h t)) e)
 
 pub every→ : (n : ℕ) (f : ℕ → Bool) → T (every? n f) → (i : ℕ) → i < n → T (f i)
 every→ zero f t i h = absurd (omega arith)
@@ -154,7 +119,7 @@ pub →keep : (f : ℕ → Bool) (xs : List ℕ) (s : ℕ) → T (has xs s) → 
     go : (b : Bool) → f x ≡ b → (T (has xs s) → T (has (keepOnly f xs) s)) → T (eqb x s) ⊎ T (has xs s) → T (has (cond b (x ∷ keepOnly f xs) (keepOnly f xs)) s)
     go true e ih (inl q) = →or (eqb x s) (has (keepOnly f xs) s) (inl q)
     go true e ih (inr v) = →or (eqb x s) (has (keepOnly f xs) s) (inr (ih v))
-    go false e ih (inl q) = let d = eqb→eq x s q in clash (sym (T→ (f x) (rw d u)) ∙ e)
+    go false e ih (inl q) = let d = eqb→eq x s q in absurd (true-false (T→ (f x) (rw d u)) e)
     go false e ih (inr v) = ih v
 
 pub has-upFrom : (i n s : ℕ) → T (has (upFrom i n) s) → s < i + n

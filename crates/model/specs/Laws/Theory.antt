@@ -10,9 +10,10 @@ use native.Mathlib.Omega.{arith}
 use native.Mathlib.Decide.{decLt}
 use lib.ListN.{length, getD, List·getD-eq-default}
 use lib.Dec.{T, ltb→lt, lt→ltb}
+use Rattle.tables.specs.Facts.{eq-or-ne, find-below, decide-both}
 use Rattle.model.specs.Board.{Rule, Board, callAt, slotAt, OnBoard, InForce, counts?, Counts, OnCall, Holds, Within, Supported, SelfSupporting, Passing, Viable, Alive, Dead, Same, SameIn, RowsIn, AtLeast, FullPlan, GoodRule, Shape}
 use Rattle.model.specs.Records.{Open, Struck, Caused, KillerIn, RingAt, Ring, NoRing, Outside, Escape, EscapeFromAll, Grounded, because, Recorded}
-use Rattle.model.specs.Laws.Tests.{T?, both?, ≡?, <?, below?, none-some}
+use Rattle.model.specs.Laws.Tests.{T?, <?, none-some}
 
 -- LAWS OF THE COLUMNS THAT COUNT. The rest of the theory goes by these
 pub counts-below : (B : Board) (r : Rule) (k : ℕ) → Counts B r k → k < length (r .calls)
@@ -50,7 +51,7 @@ self-along B A C to from self =
     }
 
 holds? : (B : Board) (r : Rule) (w c s : ℕ) → Holds B r w c s ⊎ (Holds B r w c s → ⊥)
-holds? B r w c s = go (below? Has (λ k. both? (T? (counts? B r k)) (both? (≡? (callAt r k) c) (≡? (slotAt r w k) s))) (length (r .calls)))
+holds? B r w c s = go (find-below Has (λ k. decide-both (T? (counts? B r k)) (decide-both (eq-or-ne (callAt r k) c) (eq-or-ne (slotAt r w k) s))) (length (r .calls)))
   where
     Has : ℕ → Type 0
     Has k = Counts B r k × ((callAt r k ≡ c) × (slotAt r w k ≡ s))
@@ -101,7 +102,7 @@ grounded-no-ring B mark killer E ring {c} {s} (because r f o k g) e =
 grounded-escape : (B : Board) (mark killer : ℕ → ℕ → ℕ) (Z : ℕ → ℕ → Bool) {c s : ℕ} → Grounded B mark killer c s → T (Z c s) → Escape B mark killer (Passing Z)
 grounded-escape B mark killer Z {c} {s} (because r f o k g) z =
     go (λ w h hd kz. grounded-escape B mark killer Z (g w h hd) kz)
-    (below? Inner (λ w. both? (holds? B r w c s) (T? (Z (callAt r (killer (mark c s) w)) (slotAt r w (killer (mark c s) w))))) (length (r .rows)))
+    (find-below Inner (λ w. decide-both (holds? B r w c s) (T? (Z (callAt r (killer (mark c s) w)) (slotAt r w (killer (mark c s) w))))) (length (r .rows)))
   where
     Inner : ℕ → Type 0
     Inner w = Holds B r w c s × T (Z (callAt r (killer (mark c s) w)) (slotAt r w (killer (mark c s) w)))
@@ -115,7 +116,7 @@ grounded-escape B mark killer Z {c} {s} (because r f o k g) z =
 
 -- A FULL PLAN uses only viable slots
 pub plan-viable : (B : Board) (plan : ℕ → ℕ) → Shape B → FullPlan B plan → (c : ℕ) → c < length (B .counts) → Viable B c (plan c)
-plan-viable B plan shape full c h = viable-of B Used (λ c s. both? (<? c (length (B .counts))) (≡? (plan c) s)) self c (plan c) (h, refl)
+plan-viable B plan shape full c h = viable-of B Used (λ c s. decide-both (<? c (length (B .counts))) (eq-or-ne (plan c) s)) self c (plan c) (h, refl)
   where
     Used : ℕ → ℕ → Type 0
     Used c s = (c < length (B .counts)) × (plan c ≡ s)
@@ -145,7 +146,7 @@ module _ (B : Board) (mark killer : ℕ → ℕ → ℕ) (known : Recorded B mar
 
   pub open-viable : (c s : ℕ) → Open B mark c s ↔ Viable B c s
   open-viable c s = (
-    viable-of B (Open B mark) (λ c s. both? (<? s (getD (B .counts) c 0)) (≡? (mark c s) 255)) (known .self) c s,
+    viable-of B (Open B mark) (λ c s. decide-both (<? s (getD (B .counts) c 0)) (eq-or-ne (mark c s) 255)) (known .self) c s,
     λ v. largest (Passing (v .set)) (v .self) c s (v .has),
   )
 
@@ -224,7 +225,7 @@ viable-mono B B′ more c s v =
 
 -- A CALL WITHOUT RULES IS WHOLLY OPEN
 pub free-call : (B : Board) (c : ℕ) → ((p : ℕ) (r : Rule) → InForce B p r → OnCall B r c → ⊥) → (s : ℕ) → OnBoard B c s → Viable B c s
-free-call B c free s on = viable-of B Own (λ d t. both? (≡? d c) (<? t (getD (B .counts) d 0))) self c s (refl, on)
+free-call B c free s on = viable-of B Own (λ d t. decide-both (eq-or-ne d c) (<? t (getD (B .counts) d 0))) self c s (refl, on)
   where
     Own : ℕ → ℕ → Type 0
     Own d t = (d ≡ c) × OnBoard B d t

@@ -1,7 +1,7 @@
 -- WHAT THE PROMISE TURNS AWAY. For each wrong board of document 01, "What a contract here has to say", c, and for the wrong turns that P3, P4 and P5 show: no
 -- state and answer after a sample's commands meet both the promise and the wrong behaviour. Assumes nothing.
 use mathlib.Core.Path.{_≡_, refl, sym, ap, subst, _∙_}
-use mathlib.Core.Bool.{Bool, true, false, not, _&&_}
+use mathlib.Core.Bool.{Bool, true, false, true≢false, not, _&&_}
 use mathlib.Core.List.{List, [], _∷_, map}
 use mathlib.Core.Logic.{_≢_, _⊎_, inl, inr}
 use mathlib.Core.Option.{Option, none, some}
@@ -26,7 +26,7 @@ use Rattle.model.specs.Promise.{Promise, Answered, ReportsOf, valuesAt, 
 use Rattle.model.specs.Questions.{maskOf, slotsConditions, slotsValues, SlotsPromise, supportConditions, SupportPromise}
 use Rattle.model.specs.Lists.{Runs, Turn}
 use Rattle.model.specs.Samples.{Outcome, Sample, Right, member, lengths, ledgerBefore, ledgerLast, p1, p2, p3, p4Lift, p5, p6}
-use Rattle.model.specs.Laws.Tests.{→and, clash}
+use Rattle.model.specs.Laws.Tests.{→and}
 use Rattle.model.specs.Laws.Theory.{one-rule, numbered}
 use Rattle.model.specs.Laws.Filter.{found-viable, within→, →onCall, all→}
 use Rattle.model.specs.Laws.Lists.{IsOf, runs-represent}
@@ -42,8 +42,8 @@ differ false b = b
 
 differ-not : (a b : Bool) → T (differ a b) → a ≡ b → ⊥
 differ-not true true t e = t
-differ-not true false t e = clash e
-differ-not false true t e = clash (sym e)
+differ-not true false t e = true≢false e
+differ-not false true t e = true≢false (sym e)
 differ-not false false t e = t
 
 -- masks of tests that agree
