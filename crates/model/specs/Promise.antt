@@ -11,7 +11,7 @@ use Rattle.model.specs.declared.command.Command.the-variants as kind
 use Rattle.model.specs.declared.command.Read.{Read}
 use Rattle.model.specs.declared.command.Read.the-variants as found
 use Rattle.model.specs.Commands.{readAt}
-use Rattle.model.specs.Ledger.{Ledger, LedgerShape, fresh, firstOf, earlyConditions, kindConditions, refusal, effect, step}
+use Rattle.model.specs.Ledger.{Ledger, LedgerShape, fresh, firstOf, earlyConditions, kindConditions, refusal, effect, obey, step}
 use Rattle.model.specs.Report.{Reports}
 use Rattle.model.specs.Representation.{State, lentOf, Represents}
 
@@ -45,6 +45,18 @@ pub record Answered (L : Ledger) (before : State) (bytes : List ℕ) (given : An
   pub values : valuesOf given ≡ valuesAt (refusal L (lentOf before) bytes) (reportValues report)
   pub reported : refusal L (lentOf before) bytes ≡ 0 → ReportsOf (readAt bytes 0 .read) (before .slots) (after .slots) report
   pub represents : Represents (step L (lentOf before) bytes) after
+
+-- the same of a command that has been read, with the kind's own conditions: what the functions under the entry promise
+pub record Obeyed (L : Ledger) (before : State) (c : Command) (ns : List ℕ) (given : Answer) (after : State) : Type 0 where
+  pub report : Report
+  pub number : numberOf given ≡ firstOf (kindConditions L c ns)
+  pub values : valuesOf given ≡ valuesAt (firstOf (kindConditions L c ns)) (reportValues report)
+  pub reported : firstOf (kindConditions L c ns) ≡ 0 → Reports c (before .slots) (after .slots) report
+  pub represents : Represents (obey (firstOf (kindConditions L c ns)) L (found.Command c) ns) after
+
+pub record KindPromise (before : State) (c : Command) (ns : List ℕ) (given : Answer) (after : State) : Type 0 where
+  pub refused : (n : ℕ) → given ≡ answer.Refused n → after ≡ before
+  pub obeyed : (L : Ledger) → LedgerShape L → Represents L before → Obeyed L before c ns given after
 
 -- a kind 1 whose form is right, whatever the memory held: decided by its counts alone, and a board of these counts is made new
 pub record BoardMade (ns : List ℕ) (given : Answer) (after : State) : Type 0 where

@@ -1,21 +1,80 @@
--- WHAT QUESTIONS PROMISE, on a state that is a ledger's: the refusals in the table's order, and what the answer means.
+-- THE QUESTIONS (document 01's section of that name). Each has an equation that holds whatever the memory holds, read off the value and the bytes, and says
+-- what its answer means on a state that is a ledger's; Laws.Questions proves that the second follows from the first.
 use mathlib.Core.Path.{_≡_}
-use mathlib.Core.Bool.{Bool, cond}
+use mathlib.Core.Bool.{Bool, _&&_, cond}
 use mathlib.Core.List.{List, [], _∷_, _++_}
 use mathlib.Core.Option.{Option, none, some}
-use Prim.Native.Nat.{ℕ, zero, suc, _+_, _^_, _<_}
-use lib.ListN.{length, getD}
-use lib.Dec.{leb}
+use Prim.Native.Nat.{ℕ, zero, suc, _+_, _*_, _^_, _<_, min}
+use lib.ListN.{length, getD, take, drop}
+use lib.Dec.{eqb, ltb, leb}
+use Rattle.model.specs.declared.value.Heads.{Heads}
 use Rattle.model.specs.declared.answer.OpenSlots.{OpenSlots}
 use Rattle.model.specs.declared.answer.OpenSlots.the-variants as slots
+use Rattle.model.specs.declared.answer.SlotState.{SlotState}
+use Rattle.model.specs.declared.answer.SlotState.the-variants as state
+use Rattle.model.specs.declared.answer.RowState.{RowState}
+use Rattle.model.specs.declared.answer.RowState.the-variants as row
 use Rattle.model.specs.declared.answer.Support.{Support}
 use Rattle.model.specs.declared.answer.Support.the-variants as support
-use Rattle.model.specs.Board.{Rule, Board, callAt, slotAt, Alive}
-use Rattle.model.specs.Tests.{count}
+use Rattle.model.specs.Board.{Rule, Board, callAt, slotAt, InForce, Counts, OnCall, Viable, Alive}
+use Rattle.model.specs.Tests.{count, first}
 use Rattle.model.specs.Ledger.{Ledger, LedgerShape, Lent, firstOf, lentConditions, noBoard, badNumber, notInForce}
-use Rattle.model.specs.Report.{open?}
+use Rattle.model.specs.Report.{markOf, open?}
 use Rattle.model.specs.Promise.{valuesAt}
-use Rattle.model.specs.Representation.{State, lentOf, Represents, ruleAt}
+use Rattle.model.specs.Representation.{State, lentOf, killerOf, Represents, ruleAt}
+
+-- THE REFUSALS, off a ledger, in the table's order: "6 no board", "7 number over 63", "17 number not in force", "18 no such call", "19 no such slot",
+-- "20 row number not below the row count", "21 column not below arity"
+abbrev pub boardConditions : Ledger → Lent → List (Bool × ℕ)
+boardConditions L lent = lentConditions lent ++ ((noBoard L, 6) ∷ [])
+
+abbrev pub callConditions : Ledger → Lent → ℕ → List (Bool × ℕ)
+callConditions L lent c = boardConditions L lent ++ ((leb (length (L .board .counts)) c, 18) ∷ [])
+
+abbrev pub slotConditions : Ledger → Lent → ℕ → ℕ → List (Bool × ℕ)
+slotConditions L lent c t = callConditions L lent c ++ ((leb (getD (L .board .counts) c 0) t, 19) ∷ [])
+
+abbrev pub ruleConditions : Ledger → Lent → ℕ → List (Bool × ℕ)
+ruleConditions L lent p = boardConditions L lent ++ ((badNumber p, 7) ∷ (notInForce L p, 17) ∷ [])
+
+abbrev pub rowConditions : Ledger → Lent → ℕ → ℕ → List (Bool × ℕ)
+rowConditions L lent p w = ruleConditions L lent p ++ ((leb (length (ruleAt (L .board) p .rows)) w, 20) ∷ [])
+
+-- "Support thus checks 1, 6, 7, 17, 21, 19."
+abbrev pub supportConditions : Ledger → Lent → ℕ → ℕ → ℕ → List (Bool × ℕ)
+supportConditions L lent p k t =
+    let r = ruleAt (L .board) p in
+    ruleConditions L lent p ++ ((leb (length (r .calls)) k, 21) ∷ (leb (getD (L .board .counts) (callAt r k) 0) t, 19) ∷ [])
+
+-- THE SAME, off the value, whatever it holds. Columns and rows are never more than 4 and 64
+abbrev pub slotsHeld : Heads → ℕ → ℕ
+slotsHeld h c = getD (h .counts) c 0
+
+abbrev pub columnsHeld : Heads → ℕ → ℕ
+columnsHeld h p = min (getD (h .arity) p 0) 4
+
+abbrev pub rowsHeld : Heads → ℕ → ℕ
+rowsHeld h p = min (getD (h .lengths) p 0) 64
+
+abbrev pub boardChecks : State → List (Bool × ℕ)
+boardChecks s = lentConditions (lentOf s) ++ ((eqb (slotsHeld (s .value .heads) 0) 0, 6) ∷ [])
+
+abbrev pub callChecks : State → ℕ → List (Bool × ℕ)
+callChecks s c = boardChecks s ++ ((eqb (slotsHeld (s .value .heads) c) 0, 18) ∷ [])
+
+abbrev pub slotChecks : State → ℕ → ℕ → List (Bool × ℕ)
+slotChecks s c t = callChecks s c ++ ((leb (slotsHeld (s .value .heads) c) t, 19) ∷ [])
+
+abbrev pub ruleChecks : State → ℕ → List (Bool × ℕ)
+ruleChecks s p = boardChecks s ++ ((badNumber p, 7) ∷ (eqb (columnsHeld (s .value .heads) p) 0, 17) ∷ [])
+
+abbrev pub rowChecks : State → ℕ → ℕ → List (Bool × ℕ)
+rowChecks s p w = ruleChecks s p ++ ((leb (rowsHeld (s .value .heads) p) w, 20) ∷ [])
+
+abbrev pub supportChecks : State → ℕ → ℕ → ℕ → List (Bool × ℕ)
+supportChecks s p k t =
+    let h = s .value .heads in
+    ruleChecks s p ++ ((leb (columnsHeld h p) k, 21) ∷ (leb (slotsHeld h (getD (h .calls) (4 * p + k) 0)) t, 19) ∷ [])
 
 -- SLOTS OF A CALL: "a 32-bit mask (bit s of weight 2 to the s is set exactly for open slot s), with the number of ones in its mask"
 abbrev pub maskOf : ℕ → (ℕ → Bool) → ℕ
@@ -31,16 +90,93 @@ abbrev pub slotsValues : OpenSlots → List ℕ
 slotsValues (slots.Mask m n) = m ∷ n ∷ []
 slotsValues (slots.Refused n) = []
 
-abbrev pub slotsConditions : Ledger → Lent → ℕ → List (Bool × ℕ)
-slotsConditions L lent c = lentConditions lent ++ ((noBoard L, 6) ∷ (leb (length (L .board .counts)) c, 18) ∷ [])
+-- the answer by its refusal's number
+abbrev pub slotsBy : ℕ → List ℕ → ℕ → OpenSlots
+slotsBy zero bytes c = slots.Mask (maskOf 32 (open? bytes c)) (count 32 (open? bytes c))
+slotsBy (suc n) bytes c = slots.Refused (suc n)
 
--- call c's answer on a state that is the ledger L's
+abbrev pub slotsAnswer : State → ℕ → OpenSlots
+slotsAnswer s c = slotsBy (firstOf (callChecks s c)) (s .slots) c
+
 pub record SlotsAnswered (L : Ledger) (s : State) (c : ℕ) (given : OpenSlots) : Type 0 where
-  pub number : slotsNumber given ≡ firstOf (slotsConditions L (lentOf s) c)
-  pub values : slotsValues given ≡ valuesAt (firstOf (slotsConditions L (lentOf s) c)) (maskOf 32 (open? (s .slots) c) ∷ count 32 (open? (s .slots) c) ∷ [])
+  pub number : slotsNumber given ≡ firstOf (callConditions L (lentOf s) c)
+  pub values : slotsValues given ≡ valuesAt (firstOf (callConditions L (lentOf s) c)) (maskOf 32 (open? (s .slots) c) ∷ count 32 (open? (s .slots) c) ∷ [])
 
-abbrev pub SlotsPromise : State → ℕ → OpenSlots → Type 0
-SlotsPromise s c given = (L : Ledger) → LedgerShape L → Represents L s → SlotsAnswered L s c given
+pub record SlotsPromise (s : State) (c : ℕ) (given : OpenSlots) : Type 0 where
+  pub equation : given ≡ slotsAnswer s c
+  pub answered : (L : Ledger) → LedgerShape L → Represents L s → SlotsAnswered L s c given
+
+-- STATE OF A SLOT: "open, or struck with its cause"
+abbrev pub stateNumber : SlotState → ℕ
+stateNumber state.Open = 0
+stateNumber (state.Struck n) = 0
+stateNumber (state.Refused n) = n
+
+abbrev pub stateBy : ℕ → ℕ → SlotState
+stateBy zero byte = cond (eqb byte 255) state.Open (state.Struck byte)
+stateBy (suc n) byte = state.Refused (suc n)
+
+abbrev pub stateAnswer : State → ℕ → ℕ → SlotState
+stateAnswer s c t = stateBy (firstOf (slotChecks s c t)) (markOf (s .slots) c t)
+
+-- what it says of the board: open is viable; struck is not, and the cause is the number of a rule in force on the call
+abbrev pub StateMeans : Board → ℕ → ℕ → SlotState → Type 0
+StateMeans B c t state.Open = Viable B c t
+StateMeans B c t (state.Struck n) = (Viable B c t → ⊥) × ((r : Rule) × InForce B n r × OnCall B r c)
+StateMeans B c t (state.Refused n) = ⊥
+
+pub record StateAnswered (L : Ledger) (s : State) (c t : ℕ) (given : SlotState) : Type 0 where
+  pub number : stateNumber given ≡ firstOf (slotConditions L (lentOf s) c t)
+  pub means : firstOf (slotConditions L (lentOf s) c t) ≡ 0 → StateMeans (L .board) c t given
+
+pub record StatePromise (s : State) (c t : ℕ) (given : SlotState) : Type 0 where
+  pub equation : given ≡ stateAnswer s c t
+  pub answered : (L : Ledger) → LedgerShape L → Represents L s → StateAnswered L s c t given
+
+-- A ROW OF A RULE: "alive, or its killer column"
+abbrev pub rowNumber : RowState → ℕ
+rowNumber row.Alive = 0
+rowNumber (row.Killed k) = 0
+rowNumber (row.Refused n) = n
+
+abbrev pub rowBy : ℕ → ℕ → RowState
+rowBy zero byte = cond (eqb byte 255) row.Alive (row.Killed byte)
+rowBy (suc n) byte = row.Refused (suc n)
+
+abbrev pub rowAnswer : State → ℕ → ℕ → RowState
+rowAnswer s p w = rowBy (firstOf (rowChecks s p w)) (killerOf (s .killers) p w)
+
+-- what it says of the board: a killer is the column of a slot of the row that is not viable
+abbrev pub RowMeans : Board → Rule → ℕ → RowState → Type 0
+RowMeans B r w row.Alive = Alive B r w
+RowMeans B r w (row.Killed k) = Counts B r k × (Viable B (callAt r k) (slotAt r w k) → ⊥)
+RowMeans B r w (row.Refused n) = ⊥
+
+pub record RowAnswered (L : Ledger) (s : State) (p w : ℕ) (given : RowState) : Type 0 where
+  pub number : rowNumber given ≡ firstOf (rowConditions L (lentOf s) p w)
+  pub means : firstOf (rowConditions L (lentOf s) p w) ≡ 0 → RowMeans (L .board) (ruleAt (L .board) p) w given
+
+pub record RowPromise (s : State) (p w : ℕ) (given : RowState) : Type 0 where
+  pub equation : given ≡ rowAnswer s p w
+  pub answered : (L : Ledger) → LedgerShape L → Represents L s → RowAnswered L s p w given
+
+-- THE SAME ROW'S FOUR BYTES, "handed back as a part of the lent row buffer itself; the empty part where the question before refuses"
+abbrev pub bytesBy : ℕ → List ℕ → ℕ → ℕ → List ℕ
+bytesBy zero rows p w = take 4 (drop (256 * p + 4 * w) rows)
+bytesBy (suc n) rows p w = []
+
+abbrev pub rowBytesAnswer : State → ℕ → ℕ → List ℕ
+rowBytesAnswer s p w = bytesBy (firstOf (rowChecks s p w)) (s .rows) p w
+
+-- what it says of the board: the slots of the row, 255 past the last column
+pub record RowBytesAnswered (L : Ledger) (s : State) (p w : ℕ) (given : List ℕ) : Type 0 where
+  pub refused : (n : ℕ) → firstOf (rowConditions L (lentOf s) p w) ≡ suc n → given ≡ []
+  pub size : firstOf (rowConditions L (lentOf s) p w) ≡ 0 → length given ≡ 4
+  pub means : firstOf (rowConditions L (lentOf s) p w) ≡ 0 → (k : ℕ) → k < 4 → getD given k 0 ≡ slotAt (ruleAt (L .board) p) w k
+
+pub record RowBytesPromise (s : State) (p w : ℕ) (given : List ℕ) : Type 0 where
+  pub equation : given ≡ rowBytesAnswer s p w
+  pub answered : (L : Ledger) → LedgerShape L → Represents L s → RowBytesAnswered L s p w given
 
 -- SUPPORT of a rule, column and slot: "the number of a living row with that slot there, or none"
 abbrev pub supportNumber : Support → ℕ
@@ -48,28 +184,33 @@ supportNumber (support.Row w) = 0
 supportNumber support.Nothing = 0
 supportNumber (support.Refused n) = n
 
--- "Support thus checks 1, 6, 7, 17, 21, 19."
-abbrev pub supportConditions : Ledger → Lent → ℕ → ℕ → ℕ → List (Bool × ℕ)
-supportConditions L lent p k s =
-    let r = ruleAt (L .board) p in
-    lentConditions lent
-    ++ ((noBoard L, 6)
-    ∷ (badNumber p, 7)
-    ∷ (notInForce L p, 17)
-    ∷ (leb (length (r .calls)) k, 21)
-    ∷ (leb (getD (L .board .counts) (callAt r k) 0) s, 19)
-    ∷ [])
+-- row w has no killer and the slot t in column k
+abbrev pub supports? : State → ℕ → ℕ → ℕ → ℕ → Bool
+supports? s p k t w = eqb (killerOf (s .killers) p w) 255 && eqb (getD (s .rows) (256 * p + 4 * w + k) 0) t
 
--- what the values of an answer that is no refusal mean
+-- the row found among m, or none where it is m
+abbrev pub foundRow : ℕ → ℕ → Support
+foundRow m w = cond (ltb w m) (support.Row w) support.Nothing
+
+abbrev pub supportBy : ℕ → ℕ → ℕ → Support
+supportBy zero m w = foundRow m w
+supportBy (suc n) m w = support.Refused (suc n)
+
+abbrev pub supportAnswer : State → ℕ → ℕ → ℕ → Support
+supportAnswer s p k t =
+    let m = rowsHeld (s .value .heads) p in
+    supportBy (firstOf (supportChecks s p k t)) m (first m (supports? s p k t))
+
+-- what it says of the board
 abbrev pub SupportMeans : Board → Rule → ℕ → ℕ → Support → Type 0
-SupportMeans B r k s (support.Row w) = (w < length (r .rows)) × Alive B r w × (slotAt r w k ≡ s)
-SupportMeans B r k s support.Nothing = (w : ℕ) → w < length (r .rows) → Alive B r w → slotAt r w k ≡ s → ⊥
-SupportMeans B r k s (support.Refused n) = ⊥
+SupportMeans B r k t (support.Row w) = (w < length (r .rows)) × Alive B r w × (slotAt r w k ≡ t)
+SupportMeans B r k t support.Nothing = (w : ℕ) → w < length (r .rows) → Alive B r w → slotAt r w k ≡ t → ⊥
+SupportMeans B r k t (support.Refused n) = ⊥
 
--- the answer for rule p, column k and slot s on a state that is the ledger L's
-pub record SupportAnswered (L : Ledger) (st : State) (p k s : ℕ) (given : Support) : Type 0 where
-  pub number : supportNumber given ≡ firstOf (supportConditions L (lentOf st) p k s)
-  pub means : firstOf (supportConditions L (lentOf st) p k s) ≡ 0 → SupportMeans (L .board) (ruleAt (L .board) p) k s given
+pub record SupportAnswered (L : Ledger) (s : State) (p k t : ℕ) (given : Support) : Type 0 where
+  pub number : supportNumber given ≡ firstOf (supportConditions L (lentOf s) p k t)
+  pub means : firstOf (supportConditions L (lentOf s) p k t) ≡ 0 → SupportMeans (L .board) (ruleAt (L .board) p) k t given
 
-abbrev pub SupportPromise : State → ℕ → ℕ → ℕ → Support → Type 0
-SupportPromise st p k s given = (L : Ledger) → LedgerShape L → Represents L st → SupportAnswered L st p k s given
+pub record SupportPromise (s : State) (p k t : ℕ) (given : Support) : Type 0 where
+  pub equation : given ≡ supportAnswer s p k t
+  pub answered : (L : Ledger) → LedgerShape L → Represents L s → SupportAnswered L s p k t given

@@ -18,6 +18,11 @@ abbrev pub count : ℕ → (ℕ → Bool) → ℕ
 count zero f = 0
 count (suc n) f = count n f + cond (f n) 1 0
 
+-- the first number below n at which f passes; n where there is none
+abbrev pub first : ℕ → (ℕ → Bool) → ℕ
+first zero f = 0
+first (suc n) f = cond (some? n f) (first n f) (cond (f n) n (suc n))
+
 -- n numbers from i on, rising
 abbrev pub upFrom : ℕ → ℕ → List ℕ
 upFrom i zero = []

@@ -29,6 +29,22 @@ pub enum OpenSlots {
     Refused(u8),
 }
 
+// The state of a slot.
+pub enum SlotState {
+    Open,
+    // its cause
+    Struck(u8),
+    Refused(u8),
+}
+
+// The state of a row.
+pub enum RowState {
+    Alive,
+    // its killer's column
+    Killed(u8),
+    Refused(u8),
+}
+
 // A living row that holds a slot in a column of a rule.
 pub enum Support {
     Row(u8),

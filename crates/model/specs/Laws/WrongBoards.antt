@@ -23,7 +23,7 @@ use Rattle.model.specs.Ledger.{Ledger, LedgerShape, Lent, Member, firstO
 use Rattle.model.specs.Report.{markOf, open?}
 use Rattle.model.specs.Representation.{State, lentOf, killerOf, Represents, freshState, ruleAt}
 use Rattle.model.specs.Promise.{Promise, Answered, ReportsOf, valuesAt, reportValues}
-use Rattle.model.specs.Questions.{maskOf, slotsConditions, slotsValues, SlotsPromise, supportConditions, SupportPromise}
+use Rattle.model.specs.Questions.{maskOf, callConditions, slotsValues, SlotsPromise, supportConditions, SupportPromise}
 use Rattle.model.specs.Lists.{Runs, Turn}
 use Rattle.model.specs.Samples.{Outcome, Sample, Right, member, lengths, ledgerBefore, ledgerLast, p1, p2, p3, p4Lift, p5, p6}
 use Rattle.model.specs.Laws.Tests.{→and}
@@ -183,15 +183,15 @@ module _ (s : State) (given : Answer) (s′ : State) where
       let shape = shape-after p5 s given s′ last in
       let rep = after p5 s given s′ last in
       let same = lent-after p5 s given s′ last in
-      let e : slotsValues shown ≡ values-at 0 lengths = m L shape rep .values ∙ ap (values-at 0) same in
-      let e′ : slotsValues shown ≡ values-at 1 lengths = m′ L shape rep .values ∙ ap (values-at 1) same in
+      let e : slotsValues shown ≡ values-at 0 lengths = m .answered L shape rep .values ∙ ap (values-at 0) same in
+      let e′ : slotsValues shown ≡ values-at 1 lengths = m′ .answered L shape rep .values ∙ ap (values-at 1) same in
       let empty : maskOf 32 (open? (s′ .slots) 0) ≡ 0 = mask-same 32 (open? (s′ .slots) 0) (in? (openOf (L .board)) 0) (λ t h. now-is p5 s given s′ last 0 t (lit< tt) h) in
       let full : maskOf 32 (open? (s′ .slots) 1) ≡ 3 = mask-same 32 (open? (s′ .slots) 1) (in? (openOf (L .board)) 1) (λ t h. now-is p5 s given s′ last 1 t (lit< tt) h) in
       let z : _≡_ {A = ℕ} 0 3 = sym empty ∙ ap (λ (l : List ℕ). getD l 0 0) (sym e ∙ e′) ∙ full in
       omega arith
     where
       values-at : ℕ → Lent → List ℕ
-      values-at c l = valuesAt (firstOf (slotsConditions (ledgerLast p5) l c)) (maskOf 32 (open? (s′ .slots) c) ∷ count 32 (open? (s′ .slots) c) ∷ [])
+      values-at c l = valuesAt (firstOf (callConditions (ledgerLast p5) l c)) (maskOf 32 (open? (s′ .slots) c) ∷ count 32 (open? (s′ .slots) c) ∷ [])
 
   -- ONE THAT IGNORES LIFTS
   pub not-ignoring-lifts : Last p6 s given s′ → s′ .slots ≡ s .slots → ⊥
@@ -231,7 +231,7 @@ module _ (s : State) (given : Answer) (s′ : State) where
   unfolding counts?
   not-none-with-support last m =
       let L = ledgerLast p1 in
-      m L (shape-after p1 s given s′ last) (after p1 s given s′ last) .means (ap (λ (l : Lent). firstOf (supportConditions L l 0 0 0)) (lent-after p1 s given s′ last)) 0 (lit< tt)
+      m .answered L (shape-after p1 s given s′ last) (after p1 s given s′ last) .means (ap (λ (l : Lent). firstOf (supportConditions L l 0 0 0)) (lent-after p1 s given s′ last)) 0 (lit< tt)
       (λ k n. found-viable (L .board) (callAt (ruleAt (L .board) 0) k) (slotAt (ruleAt (L .board) 0) 0 k) .0 (within→ (L .board) (ruleAt (L .board) 0) (openOf (L .board)) 0 tt k n)) refl
 
   -- THE WRONG TURNS. "in P4 each of two slots waits for the other and both stay struck"
