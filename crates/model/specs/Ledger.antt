@@ -1,7 +1,7 @@
 -- THE LEDGER, a term of document 01 ("Whole lists"): a board's rules and counts as the commands alone make them. It is fed each command's bytes and the
 -- lengths of what is lent with it, and nothing that the memory records.
 use mathlib.Core.Path.{_≡_}
-use mathlib.Core.Bool.{Bool, true, false, not, _&&_, _||_, cond}
+use mathlib.Core.Bool.{Bool, true, not, _&&_, _||_, cond}
 use mathlib.Core.List.{List, [], _∷_, _++_}
 use mathlib.Core.Option.{Option, none, some}
 use Prim.Native.Nat.{ℕ, zero, suc, _<_}

@@ -9,7 +9,7 @@ use lib.Dec.{eqb}
 use Rattle.model.specs.declared.answer.Answer.{Answer}
 use Rattle.model.specs.Board.{Rule, Board, InForce, Viable, Alive, Dead, FullPlan, AtLeast}
 use Rattle.model.specs.Records.{Open, Struck, Caused, KillerIn, NoRing, EscapeFromAll}
-use Rattle.model.specs.Ledger.{Ledger, Member}
+use Rattle.model.specs.Ledger.{Member}
 use Rattle.model.specs.Report.{markOf}
 use Rattle.model.specs.Representation.{State, lentOf, killerOf}
 use Rattle.model.specs.Promise.{Promise}

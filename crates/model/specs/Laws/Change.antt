@@ -1,19 +1,18 @@
 -- WHAT THE STEPS OF A PUT AND OF A LIFT KEEP: striking slots, giving rows killers, and reopening a closed set. Over marks and killers as functions, so
 -- that many bytes may change at once. Assumes nothing.
-use mathlib.Core.Path.{_≡_, refl, sym, ap, _∙_}
-use mathlib.Core.List.{List, []}
+use mathlib.Core.Path.{_≡_, refl, sym, _∙_}
 use mathlib.Core.Logic.{_≢_, _⊎_, inl, inr, ⊎-elim}
-use mathlib.Core.Option.{Option, none, some}
+use mathlib.Core.Option.{none}
 use Prim.Native.Nat.{ℕ, _<_, _≤_}
 use native.Mathlib.Omega.{arith}
 use native.Mathlib.Decide.{decLt, ℕ-discrete}
-use lib.ListN.{length, getD, List·getD-eq-default}
+use lib.ListN.{length, List·getD-eq-default}
 use lib.Seq.{getD-set-same, getD-set-other}
-use Rattle.model.specs.Board.{Rule, Board, callAt, slotAt, OnBoard, InForce, Counts, OnCall, Holds, Within, SelfSupporting, Shape}
+use Rattle.model.specs.Board.{Rule, Board, callAt, slotAt, OnBoard, InForce, Counts, OnCall, Holds, Within, Shape}
 use Rattle.model.specs.Records.{Open, Struck, KillerIn, Grounded, because, Sound, Recorded}
 use Rattle.model.specs.Ledger.{withRule}
 use Rattle.model.specs.Laws.Tests.{none-some}
-use Rattle.model.specs.Laws.Theory.{counts-below, counts-same, numbered, one-rule}
+use Rattle.model.specs.Laws.Theory.{counts-below, counts-same, numbered}
 
 -- WHAT STAYS GROUNDED: a set of slots that keep their marks, whose causes stay in force, and whose causes' rows keep their killers, these again in the set
 pub keep-grounded : (B B′ : Board) (mark mark′ killer killer′ : ℕ → ℕ → ℕ) (Keep : ℕ → ℕ → Type 0)

@@ -1,6 +1,6 @@
 -- WHAT THE FILTER FINDS IS EXACTLY WHAT IS VIABLE. No pass takes a slot of a self-supporting set out, and when no pass takes anything out what is left
 -- supports itself; as many passes as there are slots come to that point. Assumes nothing.
-use mathlib.Core.Path.{_≡_, refl, sym, ap, _∙_}
+use mathlib.Core.Path.{_≡_, refl, ap, _∙_}
 use mathlib.Core.Bool.{Bool, true, false, not, _&&_, _||_, cond}
 use mathlib.Core.List.{List, [], _∷_}
 use mathlib.Core.Logic.{_↔_, _⊎_, inl, inr}
@@ -10,8 +10,8 @@ use native.Mathlib.Omega.{arith}
 use native.Mathlib.Nat.{add-zero, add-suc, suc-add, zero-add, le-of-suc-le-suc}
 use lib.ListN.{length, getD}
 use lib.Dec.{T, eqb, eqb→eq, not-T, T-not}
-use Rattle.model.specs.Board.{Rule, Board, callAt, slotAt, OnBoard, InForce, counts?, Counts, OnCall, Holds, Within, Supported, SelfSupporting, Passing, Viable, ViableInAny}
-use Rattle.model.specs.Tests.{some?, every?, upFrom, has, keepOnly}
+use Rattle.model.specs.Board.{Rule, Board, callAt, slotAt, InForce, counts?, Counts, OnCall, Holds, Within, Supported, SelfSupporting, Passing, Viable, ViableInAny}
+use Rattle.model.specs.Tests.{upFrom, has, keepOnly}
 use Rattle.model.specs.Filter.{in?, onCall?, holds?, within?, supported?, admits?, all?, kept?, passFrom, pass, passes, whole, size, openOf}
 use Rattle.model.specs.Laws.Tests.{and→, →and, or→, →or, T?, some→, →some, every→, →every, →eqb, keep→, →keep, has-upFrom, upFrom-has}
 use Rattle.model.specs.Laws.Theory.{counts-below, numbered}

@@ -3,20 +3,19 @@
 use mathlib.Core.Path.{_≡_, refl, sym, ap, _∙_}
 use mathlib.Core.List.{List, []}
 use mathlib.Core.Logic.{_⊎_, inl, inr}
-use mathlib.Core.Option.{Option, none, some}
-use Prim.Native.Nat.{ℕ, _+_, _*_, _≤_, _<_}
+use mathlib.Core.Option.{none}
+use Prim.Native.Nat.{ℕ, _+_, _*_, _<_}
 use native.Mathlib.Omega.{arith}
 use lib.ListN.{length, getD, replicate, length-replicate, getD-replicate}
 use Rattle.model.specs.declared.value.Heads.{Heads}
-use Rattle.model.specs.Board.{Rule, Board, InForce, OnBoard, Viable, Shape, callAt, slotAt}
+use Rattle.model.specs.Board.{Rule, OnBoard, Shape, callAt, slotAt}
 use Rattle.model.specs.Records.{Recorded}
-use Rattle.model.specs.Ledger.{Ledger, bare, fresh}
+use Rattle.model.specs.Ledger.{bare, fresh}
 use Rattle.model.specs.Report.{markOf}
-use Rattle.model.specs.Representation.{ruleOr, ruleAt, killerOf, Headed, RowBytes, Stored, Drafted, Represents, freshHeads, emptyDraft, freshState}
+use Rattle.model.specs.Representation.{ruleOr, ruleAt, killerOf, Headed, RowBytes, Stored, Represents, freshHeads, freshState}
 use Rattle.model.specs.Laws.Tests.{<?}
-use Rattle.model.specs.Laws.Theory.{open-viable, free-call}
+use Rattle.model.specs.Laws.Theory.{free-call}
 use Rattle.model.specs.Laws.Shapes.{none-there, bare-none, shape-fresh}
-use Rattle.model.specs.Laws.Change.{on-range}
 
 -- n bytes, each of them v
 pub record Filled (n v : ℕ) (l : List ℕ) : Type 0 where

@@ -1,19 +1,17 @@
 -- A CALL AFFECTS ONLY CALLS JOINED TO IT BY RULES, whether something of it is open or not: the open slots of the others are those of the board without it.
 -- Assumes nothing.
-use mathlib.Core.Path.{_≡_, refl, sym, ap, _∙_}
+use mathlib.Core.Path.{_≡_, refl}
 use mathlib.Core.Bool.{Bool, true, false, cond}
 use mathlib.Core.List.{List, [], _∷_}
-use mathlib.Core.Logic.{_↔_, _≢_, _⊎_, inl, inr}
+use mathlib.Core.Logic.{_↔_, _≢_}
 use mathlib.Core.Option.{Option, none, some}
-use Prim.Native.Nat.{ℕ, zero, suc, _<_}
+use Prim.Native.Nat.{ℕ, zero, suc}
 use native.Mathlib.Omega.{arith}
-use native.Mathlib.Decide.{ℕ-discrete}
 use lib.ListN.{getD, set}
-use lib.Dec.{T}
-use lib.Seq.{getD-set-same, getD-set-other, set-out}
-use Rattle.model.specs.Board.{Rule, Board, callAt, slotAt, OnBoard, InForce, Counts, OnCall, Holds, Within, Supported, SelfSupporting, Passing, Viable}
+use lib.Seq.{getD-set-other}
+use Rattle.model.specs.Board.{Rule, Board, callAt, slotAt, InForce, Counts, OnCall, Supported, SelfSupporting, Passing, Viable}
 use Rattle.model.specs.Filter.{onCall?}
-use Rattle.model.specs.Laws.Tests.{T?, T→, →T, none-some}
+use Rattle.model.specs.Laws.Tests.{T→, →T, none-some}
 use Rattle.model.specs.Laws.Theory.{counts-same}
 use Rattle.model.specs.Laws.Filter.{viable-in-any, onCall→, →onCall}
 

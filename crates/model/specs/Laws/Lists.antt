@@ -2,22 +2,19 @@
 -- Assumes nothing.
 use mathlib.Core.Path.{_≡_, refl, sym, ap, subst, _∙_}
 use mathlib.Core.Bool.{Bool, true, false, true≢false, not, _&&_, cond}
-use mathlib.Core.List.{List, [], _∷_, _++_}
-use mathlib.Core.Logic.{_⊎_, inl, inr}
-use Prim.Native.Nat.{ℕ, zero, suc, _<_}
+use mathlib.Core.List.{List}
+use Prim.Native.Nat.{ℕ}
 use native.Mathlib.Omega.{arith}
 use lib.ListN.{length}
 use lib.Dec.{eqb}
-use borrow.Author.Tests.{eqb-true, eqb-false, eq-eqb}
-use Rattle.model.specs.declared.answer.Answer.{Answer}
+use borrow.Author.Tests.{eqb-true, eq-eqb}
 use Rattle.model.specs.declared.answer.Answer.the-variants as answer
-use Rattle.model.specs.Board.{Board, AtLeast, Shape, Viable}
-use Rattle.model.specs.Records.{Open, Struck, Recorded}
-use Rattle.model.specs.Commands.{readAt}
-use Rattle.model.specs.Ledger.{Ledger, LedgerShape, Lent, Member, fresh, badLent, firstOf, formConditions, ownConditions, conditions, refusal, obey, step, stepBy, ledgerAfter, run}
+use Rattle.model.specs.Board.{Board}
+use Rattle.model.specs.Records.{Recorded}
+use Rattle.model.specs.Ledger.{Ledger, LedgerShape, Lent, Member, fresh, badLent, step, stepBy, ledgerAfter, run}
 use Rattle.model.specs.Report.{markOf}
 use Rattle.model.specs.Representation.{State, lentOf, killerOf, Represents, freshState}
-use Rattle.model.specs.Promise.{Promise, Answered}
+use Rattle.model.specs.Promise.{Promise}
 use Rattle.model.specs.Lists.{Runs, done, then, standing, Turn, Demand3, Demand3Two}
 use Rattle.model.specs.Laws.Theory.{open-viable, struck-caused, row-records, no-ring, escape-from-all, plan-open, viable-mono}
 use Rattle.model.specs.Laws.Answers.{refused-by}

@@ -1,20 +1,18 @@
 -- S AND R OF THE BYTES ARE THOSE OF THE BOARDS: on a state that is a ledger's, a byte is 255 exactly where the filter finds the slot open, and a cause exactly
 -- where the board has the slot and the filter does not. Assumes nothing.
-use mathlib.Core.Path.{_≡_, refl, sym, ap, _∙_}
-use mathlib.Core.Bool.{Bool, true, false, not, _&&_}
-use mathlib.Core.List.{List, []}
+use mathlib.Core.Path.{_≡_, refl}
+use mathlib.Core.Bool.{Bool, not, _&&_}
 use mathlib.Core.Logic.{_⊎_, inl, inr}
-use Prim.Native.Nat.{ℕ, _<_, _≤_, _+_, _*_, _/_, _%_}
+use Prim.Native.Nat.{ℕ, _<_, _/_, _%_}
 use native.Mathlib.Omega.{arith}
-use lib.ListN.{length, getD}
-use lib.Dec.{T, eqb, ltb, eqb→eq, ltb→lt, lt→ltb, not-T, T-not}
+use lib.ListN.{getD}
+use lib.Dec.{T, ltb, eqb→eq, ltb→lt, lt→ltb, not-T, T-not}
 use Rattle.model.specs.Board.{OnBoard}
-use Rattle.model.specs.Tests.{count}
 use Rattle.model.specs.Filter.{in?, openOf}
 use Rattle.model.specs.Ledger.{Ledger}
 use Rattle.model.specs.Report.{slotCount, markOf, open?, struck?, closed?, struckBetween, reopenedBetween, struckOf, reopenedOf}
-use Rattle.model.specs.Representation.{State, Stored, Represents}
-use Rattle.model.specs.Laws.Tests.{and→, →and, T?, <?, →eqb, same-test, count-same}
+use Rattle.model.specs.Representation.{State, Represents}
+use Rattle.model.specs.Laws.Tests.{and→, →and, <?, →eqb, same-test, count-same}
 use Rattle.model.specs.Laws.Filter.{found-viable}
 
 module _ (L : Ledger) (s : State) (rep : Represents L s) (c t : ℕ) (lc : c < 32) (lt : t < 32) where

@@ -4,7 +4,7 @@ use mathlib.Core.Bool.{Bool, true, false, true≢false, not, _&&_, _||_, cond}
 use mathlib.Core.List.{List, [], _∷_, _++_}
 use mathlib.Core.Logic.{_≢_, _⊎_, inl, inr}
 use mathlib.Core.Option.{Option, none, some}
-use Prim.Native.Nat.{ℕ, zero, suc, _<_, _≤_, _+_, min}
+use Prim.Native.Nat.{ℕ, zero, suc, _<_, _≤_, _+_}
 use native.Mathlib.Omega.{arith}
 use native.Mathlib.Nat.{eq-or-lt-of-le, le-of-suc-le-suc}
 use native.Mathlib.Decide.{ℕ-discrete}
@@ -21,8 +21,8 @@ use Rattle.model.specs.declared.command.Read.{Read}
 use Rattle.model.specs.declared.command.Read.the-variants as found
 use Rattle.model.specs.Board.{Rule, Board, callAt, slotAt, InForce, GoodRule, Shape}
 use Rattle.model.specs.Tests.{some?, every?, isNone}
-use Rattle.model.specs.Commands.{isKind, bodyLength, commandAt, countsAt, without, readAt, callsOf, slotsOf}
-use Rattle.model.specs.Ledger.{NumberedRule, Ledger, LedgerShape, Lent, Member, bare, fresh, draftOr, firstOf, badLent, badCounts, badSpare, noBoard, badNumber, notInForce, kindConditions, formConditions, ownConditions, earlyConditions, conditions, refusal, upToZero, withRule, effect, readEffect, obey, step, stepBy, ledgerAfter, run}
+use Rattle.model.specs.Commands.{isKind, bodyLength, commandAt, without, readAt, callsOf, slotsOf}
+use Rattle.model.specs.Ledger.{NumberedRule, Ledger, LedgerShape, Lent, Member, bare, fresh, draftOr, firstOf, badLent, kindConditions, formConditions, ownConditions, refusal, upToZero, withRule, effect, obey, step, run}
 use Rattle.model.specs.Laws.Tests.{or-false, none-passes, →every, T→, →T, none-some}
 
 -- A LIST OF CONDITIONS whose first number is 0: none of them holds

@@ -1,15 +1,15 @@
 -- What a passed or a failed test says. Assumes nothing.
-use mathlib.Core.Path.{_≡_, refl, sym, ap, _∙_}
-use mathlib.Core.Bool.{Bool, true, false, not, _&&_, _||_, cond}
+use mathlib.Core.Path.{_≡_, refl}
+use mathlib.Core.Bool.{Bool, true, false, _&&_, _||_, cond}
 use mathlib.Core.List.{List, [], _∷_}
 use mathlib.Core.Logic.{_⊎_, inl, inr, ⊎-elim}
-use mathlib.Core.Option.{Option, none, some}
+use mathlib.Core.Option.{none, some}
 use Prim.Native.Nat.{ℕ, zero, suc, _<_, _≤_, _+_}
 use native.Mathlib.Omega.{arith}
 use native.Mathlib.Nat.{eq-or-lt-of-le, le-of-suc-le-suc}
 use lib.Dec.{T, eqb, eqb→eq, eqb-refl}
 use Rattle.tables.specs.Facts.{true-false, lt-or-le}
-use Rattle.model.specs.Tests.{some?, every?, count, has, keepOnly, upFrom, isNone}
+use Rattle.model.specs.Tests.{some?, every?, count, has, keepOnly, upFrom}
 
 -- joined tests
 pub and→ : (a b : Bool) → T (a && b) → T a × T b

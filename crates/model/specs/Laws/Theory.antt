@@ -2,17 +2,16 @@
 -- there is no ring, and no full plan uses a struck slot. Assumes nothing.
 use mathlib.Core.Path.{_≡_, refl, sym, ap, _∙_}
 use mathlib.Core.Bool.{Bool, true, false}
-use mathlib.Core.List.{List, []}
 use mathlib.Core.Logic.{_↔_, _⊎_, inl, inr}
-use mathlib.Core.Option.{Option, none, some}
-use Prim.Native.Nat.{ℕ, zero, suc, _<_, _≤_}
+use mathlib.Core.Option.{none}
+use Prim.Native.Nat.{ℕ, _<_, _≤_}
 use native.Mathlib.Omega.{arith}
 use native.Mathlib.Decide.{decLt}
 use lib.ListN.{length, getD, List·getD-eq-default}
 use lib.Dec.{T, ltb→lt, lt→ltb}
 use Rattle.tables.specs.Facts.{eq-or-ne, find-below, decide-both}
-use Rattle.model.specs.Board.{Rule, Board, callAt, slotAt, OnBoard, InForce, counts?, Counts, OnCall, Holds, Within, Supported, SelfSupporting, Passing, Viable, Alive, Dead, Same, SameIn, RowsIn, AtLeast, FullPlan, GoodRule, Shape}
-use Rattle.model.specs.Records.{Open, Struck, Caused, KillerIn, RingAt, Ring, NoRing, Outside, Escape, EscapeFromAll, Grounded, because, Recorded}
+use Rattle.model.specs.Board.{Rule, Board, callAt, slotAt, OnBoard, InForce, counts?, Counts, OnCall, Holds, Supported, SelfSupporting, Passing, Viable, Alive, Dead, Same, AtLeast, FullPlan, Shape}
+use Rattle.model.specs.Records.{Open, Struck, Caused, KillerIn, RingAt, Ring, NoRing, Escape, EscapeFromAll, Grounded, because, Recorded}
 use Rattle.model.specs.Laws.Tests.{T?, <?, none-some}
 
 -- LAWS OF THE COLUMNS THAT COUNT. The rest of the theory goes by these

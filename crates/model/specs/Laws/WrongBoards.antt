@@ -7,19 +7,19 @@ use mathlib.Core.Logic.{_≢_, _⊎_, inl, inr}
 use mathlib.Core.Option.{Option, none, some}
 use Prim.Native.Nat.{ℕ, zero, suc, _<_}
 use native.Mathlib.Omega.{arith}
-use lib.ListN.{length, getD}
-use lib.Dec.{T, lit<, not-T, T-not}
+use lib.ListN.{getD}
+use lib.Dec.{T, lit<, T-not}
 use Rattle.model.specs.declared.answer.Report.{Report}
 use Rattle.model.specs.declared.answer.Answer.{Answer}
 use Rattle.model.specs.declared.answer.Answer.the-variants as answer
 use Rattle.model.specs.declared.answer.OpenSlots.{OpenSlots}
 use Rattle.model.specs.declared.answer.Support.the-variants as support
-use Rattle.model.specs.Board.{Rule, Board, callAt, slotAt, OnBoard, InForce, counts?, OnCall}
+use Rattle.model.specs.Board.{Rule, Board, callAt, slotAt, OnBoard, counts?}
 use Rattle.model.specs.Records.{Struck, Grounded, because}
 use Rattle.model.specs.Tests.{count}
 use Rattle.model.specs.Filter.{in?, onCall?, all?, openOf}
 use Rattle.model.specs.Commands.{readAt}
-use Rattle.model.specs.Ledger.{Ledger, LedgerShape, Lent, Member, firstOf, refusal, step}
+use Rattle.model.specs.Ledger.{LedgerShape, Lent, Member, firstOf, refusal, step}
 use Rattle.model.specs.Report.{markOf, open?}
 use Rattle.model.specs.Representation.{State, lentOf, killerOf, Represents, freshState, ruleAt}
 use Rattle.model.specs.Promise.{Promise, Answered, ReportsOf, valuesAt, reportValues}
