@@ -1,0 +1,107 @@
+-- HOW THE ENTRY'S PROMISE IS KEPT: a command whose lengths or form are wrong is refused under the first number that holds, and any other is left to the
+-- function of its kind. Assumes nothing.
+use mathlib.Core.Path.{_≡_, refl, sym, ap, subst, _∙_}
+use mathlib.Core.Bool.{Bool, true, false, _&&_, cond}
+use mathlib.Core.List.{List, [], _∷_, _++_}
+use Prim.Native.Nat.{ℕ, zero, suc}
+use native.Mathlib.Omega.{arith}
+use lib.ListN.{length}
+use lib.Dec.{T, ltb}
+use borrow.Author.Tests.{ltb-true}
+use Rattle.model.specs.declared.answer.Report.{Report}
+use Rattle.model.specs.declared.answer.Answer.{Answer}
+use Rattle.model.specs.declared.answer.Answer.the-variants as answer
+use Rattle.model.specs.declared.command.Command.{Command}
+use Rattle.model.specs.declared.command.Command.the-variants as kind
+use Rattle.model.specs.declared.command.Read.{Read}
+use Rattle.model.specs.declared.command.Read.the-variants as found
+use Rattle.model.specs.Commands.{readAt}
+use Rattle.model.specs.Ledger.{Ledger, LedgerShape, Lent, badLent, firstOf, formConditions, ownConditions, kindConditions, earlyConditions, conditions, refusal, obey, step}
+use Rattle.model.specs.Representation.{State, lentOf, Represents}
+use Rattle.model.specs.Promise.{numberOf, valuesOf, valuesAt, reportValues, ReportsOf, Answered, Obeyed, KindPromise, BoardMade, Promise}
+use Rattle.model.specs.Laws.Shapes.{positive}
+
+-- a number of the first part is that of the whole; and where the first part has none, the second decides
+first-early : (xs ys : List (Bool × ℕ)) (n : ℕ) → firstOf xs ≡ suc n → firstOf (xs ++ ys) ≡ suc n
+first-early [] ys n e = absurd (omega arith)
+first-early (x ∷ xs) ys n e = go (x .0) e (λ d. first-early xs ys n d)
+  where
+    go : (b : Bool) → cond b (x .1) (firstOf xs) ≡ suc n → (firstOf xs ≡ suc n → firstOf (xs ++ ys) ≡ suc n) → cond b (x .1) (firstOf (xs ++ ys)) ≡ suc n
+    go true e k = e
+    go false e k = k e
+
+first-own : (xs ys : List (Bool × ℕ)) → T (positive xs) → firstOf xs ≡ 0 → firstOf (xs ++ ys) ≡ firstOf ys
+first-own [] ys t e = refl
+first-own (x ∷ xs) ys t e = go (x .0) (ltb 0 (x .1)) refl t e (λ t d. first-own xs ys t d)
+  where
+    go : (b c : Bool) → ltb 0 (x .1) ≡ c → T (c && positive xs) → cond b (x .1) (firstOf xs) ≡ 0 → (T (positive xs) → firstOf xs ≡ 0 → firstOf (xs ++ ys) ≡ firstOf ys)
+        → cond b (x .1) (firstOf (xs ++ ys)) ≡ firstOf ys
+    go true true q t e k = absurd (omega (arith, ltb-true 0 (x .1) q))
+    go false true q t e k = k t e
+    go b false q t e k = absurd t
+
+-- REFUSED FOR LENGTHS OR FORM
+pub refused-promise : (s : State) (bytes : List ℕ) (n : ℕ) → firstOf (earlyConditions (lentOf s) bytes) ≡ suc n → Promise s bytes (answer.Refused (suc n)) s
+refused-promise s bytes n e =
+    record {
+      early = λ m d. sym e ∙ d;
+      refused = λ m d. refl;
+      made = λ d. absurd (omega (arith, e, d));
+      answered = λ L shape rep. answered L rep;
+    }
+  where
+    whole : (L : Ledger) → refusal L (lentOf s) bytes ≡ suc n
+    whole L = first-early (earlyConditions (lentOf s) bytes) (ownConditions L (readAt bytes 0 .read) (readAt bytes 0 .counts)) n e
+
+    alone : (L : Ledger) → step L (lentOf s) bytes ≡ L
+    alone L = ap (λ (m : ℕ). obey m L (readAt bytes 0 .read) (readAt bytes 0 .counts)) (whole L)
+
+    answered : (L : Ledger) → Represents L s → Answered L s bytes (answer.Refused (suc n)) s
+    answered L rep =
+        record {
+          report = record { struck = 0; reopened = 0; touched = 0 };
+          number = sym (whole L);
+          values = sym (ap (λ (m : ℕ). valuesAt m (0 ∷ 0 ∷ 0 ∷ [])) (whole L));
+          reported = λ d. absurd (omega (arith, whole L, d));
+          represents = subst (λ (K : Ledger). Represents K s) (sym (alone L)) rep;
+        }
+
+-- LEFT TO THE KIND
+module _ (s : State) (bytes : List ℕ) (c : Command) (given : Answer) (after : State) (is : readAt bytes 0 .read ≡ found.Command c)
+    (passes : firstOf (earlyConditions (lentOf s) bytes) ≡ 0) where
+  own : (L : Ledger) → refusal L (lentOf s) bytes ≡ firstOf (kindConditions L c (readAt bytes 0 .counts))
+  own L = go (readAt bytes 0 .read) is passes
+    where
+      go : (r : Read) → r ≡ found.Command c → firstOf ((badLent (lentOf s), 1) ∷ formConditions r (ltb (readAt bytes 0 .next) (length bytes))) ≡ 0
+          → firstOf (((badLent (lentOf s), 1) ∷ formConditions r (ltb (readAt bytes 0 .next) (length bytes))) ++ ownConditions L r (readAt bytes 0 .counts))
+          ≡ firstOf (kindConditions L c (readAt bytes 0 .counts))
+      go (found.Command d) e p =
+          let same : d ≡ c = cc in
+          rw (← same)
+          (first-own ((badLent (lentOf s), 1) ∷ (ltb (readAt bytes 0 .next) (length bytes), 4) ∷ []) (kindConditions L d (readAt bytes 0 .counts)) tt p)
+      go (found.Refused k m) e p = let z : _≡_ {A = ℕ} 0 1 = cc in absurd (omega arith)
+      go found.End e p = let z : _≡_ {A = ℕ} 0 1 = cc in absurd (omega arith)
+
+  pub kind-promise : KindPromise s c (readAt bytes 0 .counts) given after → (c ≡ kind.Board → BoardMade (readAt bytes 0 .counts) given after) → Promise s bytes given after
+  kind-promise promise made =
+      record {
+        early = λ m d. absurd (omega (arith, passes, d));
+        refused = promise .refused;
+        made = λ d e. made (let same : c ≡ kind.Board = cc in same);
+        answered = λ L shape rep. answered L (promise .obeyed L shape rep);
+      }
+    where
+      answered : (L : Ledger) → Obeyed L s c (readAt bytes 0 .counts) given after → Answered L s bytes given after
+      answered L o =
+          record {
+            report = o .report;
+            number = o .number ∙ sym (own L);
+            values = o .values ∙ sym (ap (λ (m : ℕ). valuesAt m (reportValues (o .report))) (own L));
+            reported = λ e. subst (λ (r : Read). ReportsOf r (s .slots) (after .slots) (o .report)) (sym is) (o .reported (sym (own L) ∙ e));
+            represents = subst (λ (K : Ledger). Represents K after) (sym (stepped L)) (o .represents);
+          }
+        where
+          stepped : (L : Ledger) → step L (lentOf s) bytes ≡ obey (firstOf (kindConditions L c (readAt bytes 0 .counts))) L (found.Command c) (readAt bytes 0 .counts)
+          stepped L =
+              ap (λ (m : ℕ). obey m L (readAt bytes 0 .read) (readAt bytes 0 .counts)) (own L)
+              ∙ ap (λ (r : Read). obey (firstOf (kindConditions L c (readAt bytes 0 .counts))) L r (readAt bytes 0 .counts)) is
