@@ -20,5 +20,7 @@ pub record PutDone (p n m s : ℕ) (head body : List ℕ) (R R′ : RuleBytes) (
   pub flags : List Bool
   pub propagated : Propagated R′ s (reached killers slots (onlyRule p)) (reached killers′ slots′ flags)
 
-pub written-sizes : {p n m : ℕ} {head body killers slots : List ℕ} {R R′ : RuleBytes} → Written p n m head body R R′ → Sizes (R .rows) killers slots → Sizes (R′ .rows) killers slots
+-- a write leaves the buffers' lengths as they were
+pub written-sizes : {p n m : ℕ} {head body killers slots : List ℕ} {R R′ : RuleBytes} → Written p n m head body R R′ → Sizes (R .rows) killers slots
+    → Sizes (R′ .rows) killers slots
 written-sizes w s = record { rows-size = w .rows-size ∙ s .rows-size; killers-size = s .killers-size; slots-size = s .slots-size }

@@ -29,7 +29,7 @@ pub record RuleIs (r : Rule) (n m : ℕ) (head body : List ℕ) : Type 0 where
 pub drafted-is : (d : NumberedRule) (draft : Draft) → Drafted (some d) draft → RuleIs (d .rule) (draft .arity) (draft .length) (draft .calls) (draft .rows)
 drafted-is d draft h = record { arity = h .arity; length-is = h .length-is; calls = h .calls; rows = h .rows }
 
--- and so does the empty rule, where all is 255
+-- and the empty rule is held so where every byte is 255
 pub empty-is : (head body : List ℕ) → ((k : ℕ) → k < 4 → getD head k 0 ≡ 255) → ((i : ℕ) → i < 256 → getD body i 0 ≡ 255) → RuleIs (ruleOr none) 0 0 head body
 empty-is head body hh hb = record { arity = refl; length-is = refl; calls = hh; rows = λ w k lw lk. hb (4 * w + k) (omega arith) }
 
@@ -98,8 +98,8 @@ stable-same R R′ q killers slots same st =
           record { row = x .row; inside = rw (same .lengths) (x .inside); lives = x .lives; holds = rw (same .bytes (x .row) k (omega arith) (omega arith)) (x .holds) };
     }
 
-pub written-stable : {p n m : ℕ} {head body : List ℕ} {R R′ : RuleBytes} → Written p n m head body R R′ → (killers slots : List ℕ) (q : ℕ) → q ≢ p → Stable R killers slots q
-    → Stable R′ killers slots q
+pub written-stable : {p n m : ℕ} {head body : List ℕ} {R R′ : RuleBytes} → Written p n m head body R R′ → (killers slots : List ℕ) (q : ℕ) → q ≢ p
+    → Stable R killers slots q → Stable R′ killers slots q
 written-stable {R = R} {R′ = R′} w killers slots q ne st = stable-same R R′ q killers slots (w .other q ne) st
 
 -- and a rule without columns is stable

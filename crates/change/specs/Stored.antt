@@ -72,7 +72,8 @@ module _ (B : Board) (shape : Shape B) (p : ℕ) (lp : p < 64) (free : getD (B .
   no-rows : length (ruleAt B p .rows) ≡ 0
   no-rows = ap (λ (o : Option Rule). length (ruleOr o .rows)) free
 
-  module _ {n m : ℕ} {head body : List ℕ} (is : RuleIs r n m head body) (heads : Heads) (rows killers slots : List ℕ) (stored : Stored B heads rows killers slots) (R′ : RuleBytes) where
+  module _ {n m : ℕ} {head body : List ℕ} (is : RuleIs r n m head body) (heads : Heads) (rows killers slots : List ℕ)
+      (stored : Stored B heads rows killers slots) (R′ : RuleBytes) where
     -- the board is at work, with only the new rule pending
     put-working : Written p n m head body (bytesIn heads rows) R′ → Working (withRule B p (some r)) R′ (reached killers slots (onlyRule p))
     put-working w =

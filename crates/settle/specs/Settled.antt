@@ -46,7 +46,8 @@ module _ (B : Board) (shape : Shape B) (R : RuleBytes) (p : ℕ) (r : Rule) (f :
             (x .row, lw, x .lives, record { column = h .column; counts = h .counts; call = h .call; slot = sym (b .slot (x .row) (h .column) lw lk) ∙ x .holds });
       }
     where
-      alive : (w : ℕ) → w < length (r .rows) → killerOf killers p w ≡ 255 → (k : ℕ) → k < length (r .calls) → OnBoard B (callAt r k) (slotAt r w k) → Open B (markOf slots) (callAt r k) (slotAt r w k)
+      alive : (w : ℕ) → w < length (r .rows) → killerOf killers p w ≡ 255 → (k : ℕ) → k < length (r .calls) → OnBoard B (callAt r k) (slotAt r w k)
+          → Open B (markOf slots) (callAt r k) (slotAt r w k)
       alive w lw e k lk on =
           ⊎-elim
           (λ o. (on, o))
