@@ -3,10 +3,11 @@
 use mathlib.Core.Path.{_≡_, refl, sym, ap, subst, _∙_}
 use mathlib.Core.Bool.{Bool, true, false, _&&_, cond}
 use mathlib.Core.List.{List, [], _∷_, _++_}
-use Prim.Native.Nat.{ℕ, zero, suc}
+use mathlib.Core.Logic.{_⊎_, inl, inr}
+use Prim.Native.Nat.{ℕ, zero, suc, _+_}
 use native.Mathlib.Omega.{arith}
-use lib.ListN.{length}
-use lib.Dec.{T, ltb}
+use lib.ListN.{length, getD}
+use lib.Dec.{T, ltb, leb}
 use borrow.Author.Tests.{ltb-true}
 use Rattle.model.specs.declared.answer.Report.{Report}
 use Rattle.model.specs.declared.answer.Answer.{Answer}
@@ -15,7 +16,7 @@ use Rattle.model.specs.declared.command.Command.{Command}
 use Rattle.model.specs.declared.command.Command.the-variants as kind
 use Rattle.model.specs.declared.command.Read.{Read}
 use Rattle.model.specs.declared.command.Read.the-variants as found
-use Rattle.model.specs.Commands.{readAt}
+use Rattle.model.specs.Commands.{isKind, bodyLength, commandAt, countsAt, without, readAt}
 use Rattle.model.specs.Ledger.{Ledger, LedgerShape, Lent, badLent, firstOf, formConditions, ownConditions, kindConditions, earlyConditions, conditions, refusal, obey, step}
 use Rattle.model.specs.Representation.{State, lentOf, Represents}
 use Rattle.model.specs.Promise.{numberOf, valuesOf, valuesAt, reportValues, ReportsOf, Answered, Obeyed, KindPromise, BoardMade, Promise}
@@ -39,6 +40,35 @@ first-own (x ∷ xs) ys t e = go (x .0) (ltb 0 (x .1)) refl t e (λ t d. first-o
     go true true q t e k = absurd (omega (arith, ltb-true 0 (x .1) q))
     go false true q t e k = k t e
     go b false q t e k = absurd t
+
+-- what is read at a place is refused under 3 or 4 only
+pub read-numbers : (s : List ℕ) (at k n : ℕ) → readAt s at .read ≡ found.Refused k n → (n ≡ 3) ⊎ (n ≡ 4)
+read-numbers s at k n = go (leb (length s) at) (isKind (getD s at 0)) (leb (at + 1 + bodyLength (getD s at 0)) (length s))
+  where
+    go : (a b c : Bool)
+        → (cond a (without found.End at)
+        (cond b
+        (cond c
+        (record {
+          read = found.Command (commandAt s (getD s at 0) (at + 1));
+          counts = countsAt s (getD s at 0) (at + 1);
+          next = at + 1 + bodyLength (getD s at 0);
+        })
+        (without (found.Refused (getD s at 0) 4) at))
+        (without (found.Refused (getD s at 0) 3) at))) .read ≡ found.Refused k n
+        → (n ≡ 3) ⊎ (n ≡ 4)
+    go true b c e = let z : _≡_ {A = ℕ} 0 1 = cc in absurd (omega arith)
+    go false true true e = let z : _≡_ {A = ℕ} 0 1 = cc in absurd (omega arith)
+    go false true false e = inr (let z : n ≡ 4 = cc in z)
+    go false false c e = inl (let z : n ≡ 3 = cc in z)
+
+-- the refusals by lengths and by form, as the entry gives them
+module _ (s : State) (bytes : List ℕ) where
+  pub early-lengths : badLent (lentOf s) ≡ true → firstOf (earlyConditions (lentOf s) bytes) ≡ 1
+  early-lengths bad = rw bad refl
+
+  pub early-form : badLent (lentOf s) ≡ false → firstOf (earlyConditions (lentOf s) bytes) ≡ firstOf (formConditions (readAt bytes 0 .read) (ltb (readAt bytes 0 .next) (length bytes)))
+  early-form good = rw good refl
 
 -- REFUSED FOR LENGTHS OR FORM
 pub refused-promise : (s : State) (bytes : List ℕ) (n : ℕ) → firstOf (earlyConditions (lentOf s) bytes) ≡ suc n → Promise s bytes (answer.Refused (suc n)) s
