@@ -1,0 +1,5 @@
+pub mod Append
+pub mod Joined
+pub mod Digits
+pub mod Lines
+pub mod Calls
