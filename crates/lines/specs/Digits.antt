@@ -1,11 +1,10 @@
 -- THE DIGITS OF A NUMBER below 10,000, from the highest that it has. Assumes nothing.
-use mathlib.Core.Path.{_≡_, refl}
-use mathlib.Core.Bool.{Bool, true, false, cond}
+use mathlib.Core.Path.{_≡_}
+use mathlib.Core.Bool.{cond}
 use mathlib.Core.List.{List, [], _∷_}
 use mathlib.Core.Logic.{⊎-elim}
 use Prim.Native.Nat.{ℕ, _+_, _/_, _%_, _≤_, _<_}
 use native.Mathlib.Omega.{arith}
-use lib.ListN.{length, length-append}
 use lib.Dec.{leb}
 use borrow.Author.Tests.{lt-ltb, le-ltb, le-leb, lt-leb}
 use Rattle.tables.specs.Facts.{lt-or-le}
@@ -15,27 +14,6 @@ use Rattle.lines.specs.Append.{whole, Split}
 -- the digit of weight w, where the number has one there
 abbrev pub digitIf : ℕ → ℕ → List ℕ
 digitIf n w = cond (leb w n) ((48 + n / w % 10) ∷ []) []
-
--- 1 where the number reaches the weight
-abbrev pub reaches : ℕ → ℕ → ℕ
-reaches n w = cond (leb w n) 1 0
-
-pub reaches-most : (n w : ℕ) → reaches n w ≤ 1
-reaches-most n w = go (leb w n)
-  where
-    go : (b : Bool) → cond b 1 0 ≤ 1
-    go true = omega arith
-    go false = omega arith
-
-digit-length : (n w : ℕ) → length (digitIf n w) ≡ reaches n w
-digit-length n w = go (leb w n)
-  where
-    go : (b : Bool) → length (cond b ((48 + n / w % 10) ∷ []) []) ≡ cond b 1 0
-    go true = refl
-    go false = refl
-
-pub reaches-none : (n w : ℕ) → n < w → reaches n w ≡ 0
-reaches-none n w h = rw (lt-leb w n h) refl
 
 -- the parts of a number's decimal, from the highest weight down
 abbrev pub decimalParts : ℕ → List (List ℕ)
@@ -67,7 +45,3 @@ module _ (n : ℕ) (h : n < 10000) where
 
   pub decimal-parts : Split (decimalParts n) (decimal n)
   decimal-parts = record { same = by-size }
-
-  -- it has one digit, and one more for each weight that it reaches
-  pub decimal-length : length (decimal n) ≡ 1 + reaches n 10 + reaches n 100 + reaches n 1000
-  decimal-length = rw (← by-size) (simp length-append (omega (arith, digit-length n 10, digit-length n 100, digit-length n 1000)))

@@ -3,3 +3,5 @@ pub mod Joined
 pub mod Digits
 pub mod Lines
 pub mod Calls
+pub mod Counts
+pub mod Lengths

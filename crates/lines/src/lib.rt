@@ -1,6 +1,6 @@
-// The lines of the sheet, written one after another into a lent buffer. Each function is given the place to write at and returns the place after
-// what it wrote; what it wrote is the definition's bytes, and every other byte is as it was.
-// Proved: that, for every number, line and board. Assumed: nothing.
+// The lines of the sheet, written one after another into a lent buffer. Each function is given the place to write at, asks for room for just what it
+// writes, and returns the place after it.
+// Proved: what is written is the definition's bytes, and every other byte is as it was. Assumed: nothing.
 ghost use mathlib.Core.Path.{_≡_};
 ghost use mathlib.Core.List.{[], _∷_};
 ghost use Prim.Native.Nat.{_≤_, _<_};
@@ -13,6 +13,7 @@ ghost use Rattle.lines.specs.Digits.{digitIf};
 ghost use Rattle.lines.specs.Lines.{start};
 ghost use Rattle.lines.specs.Calls.{openNumbers, openNumber, slotLine};
 
+// One byte.
 pub fn put_byte(out: &mut [u8], at: usize, b: u8) -> usize
     requires { ⌜ Room at 1 (now out) ⌝ }
     ensures { λ r. ⌜ Appended (b ∷ []) at (now (out .entry)) (now (out .exit)) r ⌝ }
@@ -21,6 +22,7 @@ pub fn put_byte(out: &mut [u8], at: usize, b: u8) -> usize
     at + 1
 }
 
+// A text as it is.
 pub fn put_bytes(out: &mut [u8], at: usize, text: &[u8]) -> usize
     requires { ⌜ Room at (length (now text)) (now out) ⌝ }
     ensures { λ r. ⌜ Appended (now (text .entry)) at (now (out .entry)) (now (out .exit)) r ⌝ }
@@ -41,7 +43,7 @@ fn put_digit(out: &mut [u8], at: usize, n: usize, w: usize) -> usize
     ensures { λ r. ⌜ Appended (digitIf n w) at (now (out .entry)) (now (out .exit)) r ⌝ }
 {
     if w <= n {
-        put_byte(out, at, (48 + n / w % 10) as u8)
+        put_byte(out, at, b'0' + (n / w % 10) as u8)
     } else {
         at
     }
@@ -56,7 +58,7 @@ pub fn put_decimal(out: &mut [u8], at: usize, n: usize) -> usize
     let a = put_digit(out, at, n, 1000);
     let b = put_digit(out, a, n, 100);
     let c = put_digit(out, b, n, 10);
-    put_byte(out, c, (48 + n % 10) as u8)
+    put_byte(out, c, b'0' + (n % 10) as u8)
 }
 
 // A space and a number.
@@ -65,7 +67,7 @@ pub fn put_spaced(out: &mut [u8], at: usize, n: usize) -> usize
     requires { ⌜ n < 10000 ⌝ }
     ensures { λ r. ⌜ Appended (spaced (n ∷ [])) at (now (out .entry)) (now (out .exit)) r ⌝ }
 {
-    let a = put_byte(out, at, 32);
+    let a = put_byte(out, at, b' ');
     put_decimal(out, a, n)
 }
 
@@ -88,7 +90,9 @@ pub fn accepted_line(
     reopened: usize,
 ) -> usize
     requires { ⌜ Room at (length (acceptedLine kind struck reopened)) (now out) ⌝ }
-    requires { ⌜ (kind < 10000) × (struck < 10000) × (reopened < 10000) ⌝ }
+    requires { ⌜ kind < 10000 ⌝ }
+    requires { ⌜ struck < 10000 ⌝ }
+    requires { ⌜ reopened < 10000 ⌝ }
     ensures { λ r. ⌜ Appended (acceptedLine kind struck reopened) at (now (out .entry)) (now (out .exit)) r ⌝ }
 {
     let a = put_start(out, at, b'a', kind);
@@ -100,7 +104,8 @@ pub fn accepted_line(
 // The line of a refused command: its kind and the refusal's number.
 pub fn refused_line(out: &mut [u8], at: usize, kind: usize, number: usize) -> usize
     requires { ⌜ Room at (length (refusedLine kind number)) (now out) ⌝ }
-    requires { ⌜ (kind < 10000) × (number < 10000) ⌝ }
+    requires { ⌜ kind < 10000 ⌝ }
+    requires { ⌜ number < 10000 ⌝ }
     ensures { λ r. ⌜ Appended (refusedLine kind number) at (now (out .entry)) (now (out .exit)) r ⌝ }
 {
     let a = put_start(out, at, b'r', kind);
@@ -112,7 +117,8 @@ pub fn refused_line(out: &mut [u8], at: usize, kind: usize, number: usize) -> us
 fn open_slot(out: &mut [u8], at: usize, slots: &[u8], c: usize, s: usize) -> usize
     requires { ⌜ Room at (length (openNumber (now slots) c s)) (now out) ⌝ }
     requires { ⌜ length (now slots) ≡ 1024 ⌝ }
-    requires { ⌜ (c < 32) × (s < 32) ⌝ }
+    requires { ⌜ c < 32 ⌝ }
+    requires { ⌜ s < 32 ⌝ }
     ensures { λ r. ⌜ Appended (openNumber (now (slots .entry)) c s) at (now (out .entry)) (now (out .exit)) r ⌝ }
 {
     if slots[32 * c + s] == 255 {
@@ -122,8 +128,8 @@ fn open_slot(out: &mut [u8], at: usize, slots: &[u8], c: usize, s: usize) -> usi
     }
 }
 
-// The same for all slots of call c.
-fn open_slots(out: &mut [u8], at: usize, slots: &[u8], c: usize) -> usize
+// The numbers of all open slots of call c, rising.
+pub fn open_slots(out: &mut [u8], at: usize, slots: &[u8], c: usize) -> usize
     requires { ⌜ Room at (length (spaced (openNumbers (now slots) c))) (now out) ⌝ }
     requires { ⌜ length (now slots) ≡ 1024 ⌝ }
     requires { ⌜ c < 32 ⌝ }
@@ -138,16 +144,16 @@ fn open_slots(out: &mut [u8], at: usize, slots: &[u8], c: usize) -> usize
     next
 }
 
-// The line of call c: its number, and the numbers of its open slots.
+// The line of call c: its number and those of its open slots, with no space after the last.
 pub fn call_line(out: &mut [u8], at: usize, slots: &[u8], c: usize) -> usize
     requires { ⌜ Room at (length (slotLine (now slots) c)) (now out) ⌝ }
     requires { ⌜ length (now slots) ≡ 1024 ⌝ }
     requires { ⌜ c < 32 ⌝ }
     ensures { λ r. ⌜ Appended (slotLine (now (slots .entry)) c) at (now (out .entry)) (now (out .exit)) r ⌝ }
 {
-    let a = put_start(out, at, b'c', c);
-    let b = open_slots(out, a, slots, c);
-    put_byte(out, b, b'\n')
+    let numbered = put_start(out, at, b'c', c);
+    let listed = open_slots(out, numbered, slots, c);
+    put_byte(out, listed, b'\n')
 }
 
 // The lines of the first n calls.
@@ -181,7 +187,7 @@ pub fn call_count(counts: &[u8; 32]) -> usize
     32
 }
 
-// The last line.
+// The last line, a fixed text.
 pub fn end_line(out: &mut [u8], at: usize) -> usize
     requires { ⌜ Room at (length endLine) (now out) ⌝ }
     ensures { λ r. ⌜ Appended endLine at (now (out .entry)) (now (out .exit)) r ⌝ }

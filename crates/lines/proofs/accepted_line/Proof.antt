@@ -1,4 +1,5 @@
 -- The four calls write the parts of the line, and there is room for each after the ones before it.
+use native.Mathlib.Omega.{arith}
 use borrow.Author.Needs.{needs}
 use Rattle.lines.specs.Append.{append-more, append-same, room-parts, room-first, room-rest}
 use Rattle.lines.specs.Lines.{accepted-parts}
@@ -9,7 +10,7 @@ put-start-requires : tie.Need-put-start-requires
 put-start-requires c κs =
     let s = c .before .before in
     let a = s .args in
-    (room-first (room-parts (accepted-parts (a .kind) (a .struck) (a .reopened)) (s .pre .0)), s .pre .1 .0)
+    (room-first (room-parts (accepted-parts (a .kind) (a .struck) (a .reopened)) (s .pre .0)), omega arith)
 
 put-spaced-requires : tie.Need-put-spaced-requires
 put-spaced-requires c κs =
@@ -17,7 +18,7 @@ put-spaced-requires c κs =
     let s = x .before .before .before in
     let a = s .args in
     let room = room-parts (accepted-parts (a .kind) (a .struck) (a .reopened)) (s .pre .0) in
-    (room-first (room-rest room (x .put-start .ensures)), s .pre .1 .1)
+    (room-first (room-rest room (x .put-start .ensures)), omega arith)
 
 put-spaced-requires-2 : tie.Need-put-spaced-requires-2
 put-spaced-requires-2 c κs =
@@ -26,7 +27,7 @@ put-spaced-requires-2 c κs =
     let s = x .before .before .before in
     let a = s .args in
     let room = room-parts (accepted-parts (a .kind) (a .struck) (a .reopened)) (s .pre .0) in
-    (room-first (room-rest (room-rest room (x .put-start .ensures)) (y .put-spaced .ensures)), s .pre .1 .2)
+    (room-first (room-rest (room-rest room (x .put-start .ensures)) (y .put-spaced .ensures)), omega arith)
 
 put-byte-requires : tie.Need-put-byte-requires
 put-byte-requires c κs =

@@ -5,7 +5,7 @@ use native.Mathlib.Omega.{arith}
 use lib.ListN.{getD, List·getD-eq-default}
 use borrow.Author.Count.{below-more}
 use borrow.Author.Needs.{needs}
-use Rattle.lines.specs.Calls.{first-zero}
+use Rattle.lines.specs.Counts.{first-zero}
 use Rattle.lines.proofs.call_count.Statement.{statement}
 use Rattle.lines.proofs.call_count.Tie as tie
 

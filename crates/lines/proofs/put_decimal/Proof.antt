@@ -26,11 +26,11 @@ put-digit-requires-3 c κs =
     let room = room-parts (decimal-parts (s .args .n) (s .pre .1)) (s .pre .0) in
     (room-first (room-rest (room-rest room (x .put-digit .ensures)) (y .put-digit2 .ensures)), omega arith)
 
-add-put-byte : tie.Need-add-put-byte
-add-put-byte c = search needs
-
 cast-put-byte : tie.Need-cast-put-byte
 cast-put-byte c = search needs
+
+add-put-byte : tie.Need-add-put-byte
+add-put-byte c = search needs
 
 put-byte-requires : tie.Need-put-byte-requires
 put-byte-requires c κs =
@@ -60,8 +60,8 @@ put-decimal-spec =
     put-digit-requires
     put-digit-requires-2
     put-digit-requires-3
-    add-put-byte
     cast-put-byte
+    add-put-byte
     put-byte-requires
     same-length
     returns)

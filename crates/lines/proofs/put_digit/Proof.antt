@@ -9,11 +9,11 @@ use Rattle.lines.proofs.put_digit.Tie as tie
 div-put-byte : tie.Need-div-put-byte
 div-put-byte c = search needs
 
-add-put-byte : tie.Need-add-put-byte
-add-put-byte c = search needs
-
 cast-put-byte : tie.Need-cast-put-byte
 cast-put-byte c = search needs
+
+add-put-byte : tie.Need-add-put-byte
+add-put-byte c = search needs
 
 put-byte-requires : tie.Need-put-byte-requires
 put-byte-requires c κs = simp (le-leb _ _ (c .before .if1 .taken)) at (c .before .before .before .pre .0)
@@ -32,8 +32,8 @@ put-digit-spec =
     tie.close
     (tie.spec
     div-put-byte
-    add-put-byte
     cast-put-byte
+    add-put-byte
     put-byte-requires
     same-length
     returns

@@ -1,5 +1,6 @@
 -- The three calls write the parts of the line, and there is room for each after the ones before it.
 use mathlib.Core.List.{[], _∷_}
+use native.Mathlib.Omega.{arith}
 use borrow.Author.Needs.{needs}
 use Rattle.lines.specs.Append.{append-more, append-same, room-parts, room-first, room-rest}
 use Rattle.lines.specs.Lines.{line-parts}
@@ -9,14 +10,14 @@ use Rattle.lines.proofs.refused_line.Tie as tie
 put-start-requires : tie.Need-put-start-requires
 put-start-requires c κs =
     let s = c .before .before in
-    (room-first (room-parts (line-parts 114 (s .args .kind) (s .args .number ∷ [])) (s .pre .0)), s .pre .1 .0)
+    (room-first (room-parts (line-parts 114 (s .args .kind) (s .args .number ∷ [])) (s .pre .0)), omega arith)
 
 put-spaced-requires : tie.Need-put-spaced-requires
 put-spaced-requires c κs =
     let x = c .before .before .before in
     let s = x .before .before .before in
     let room = room-parts (line-parts 114 (s .args .kind) (s .args .number ∷ [])) (s .pre .0) in
-    (room-first (room-rest room (x .put-start .ensures)), s .pre .1 .1)
+    (room-first (room-rest room (x .put-start .ensures)), omega arith)
 
 put-byte-requires : tie.Need-put-byte-requires
 put-byte-requires c κs =
