@@ -44,6 +44,10 @@ append-more {xs} {ys} {at} {m} {r} {old} {mid} {new} x y =
     later : drop r mid ≡ drop r old
     later = rw (y .place, ← drop-drop (length ys) m mid, ← drop-drop (length ys) m old, x .behind) refl
 
+-- room for more is room for less
+pub room-less : {at m n : ℕ} {out : List ℕ} → Room at n out → m ≤ n → Room at m out
+room-less r h = let f = r .fits in record { fits = omega arith }
+
 -- the bytes may be put in other words
 pub append-same : {xs ys : List ℕ} {at r : ℕ} {old new : List ℕ} → xs ≡ ys → Appended xs at old new r → Appended ys at old new r
 append-same e x = rw e at x
@@ -56,7 +60,7 @@ abbrev pub whole : List (List ℕ) → List ℕ
 whole [] = []
 whole (x ∷ xs) = x ++ whole xs
 
--- they are the bytes
+-- together they are the bytes
 pub record Split (parts : List (List ℕ)) (bytes : List ℕ) : Type 0 where
   pub same : whole parts ≡ bytes
 

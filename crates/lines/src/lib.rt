@@ -6,7 +6,7 @@ ghost use mathlib.Core.List.{[], _∷_};
 ghost use Prim.Native.Nat.{_≤_, _<_};
 ghost use lib.ListN.{length};
 ghost use Rattle.model.specs.Ledger.{upToZero};
-ghost use Rattle.model.specs.Sheet.{decimal, spaced, line, acceptedLine, refusedLine, endLine};
+ghost use Rattle.model.specs.Sheet.{decimal, spaced, acceptedLine, refusedLine, endLine};
 ghost use Rattle.lines.specs.Append.{Appended, Room};
 ghost use Rattle.lines.specs.Joined.{joined};
 ghost use Rattle.lines.specs.Digits.{digitIf};

@@ -1,5 +1,4 @@
 -- By the test the number has the digit, and it is written, or has none.
-use native.Mathlib.Omega.{arith}
 use borrow.Author.Needs.{needs}
 use borrow.Author.Tests.{le-leb, lt-leb}
 use Rattle.lines.specs.Append.{append-none}
