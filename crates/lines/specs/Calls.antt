@@ -19,7 +19,7 @@ use Rattle.lines.specs.Append.{Split}
 use Rattle.lines.specs.Joined.{joined, joined-over, joined-same}
 use Rattle.lines.specs.Lines.{spaced-append, lineParts, line-parts}
 
--- the numbers of the open slots of call c, rising
+-- the numbers of the open slots of call c, rising. No abbreviation: written out it would double with each slot
 unfoldable pub openNumbers : List ℕ → ℕ → List ℕ
 openNumbers slots c = keepOnly (open? slots c) (upFrom 0 32)
 
