@@ -1,0 +1,64 @@
+-- The four calls write the parts of the line, and there is room for each after the ones before it.
+use native.Mathlib.Omega.{arith}
+use borrow.Author.Needs.{needs}
+use Rattle.lines.specs.Append.{append-more, append-same, room-parts, room-first, room-rest}
+use Rattle.lines.specs.Lines.{accepted-parts}
+use Rattle.lines.proofs.accepted_line.Statement.{statement}
+use Rattle.lines.proofs.accepted_line.Tie as tie
+
+put-start-requires : tie.Need-put-start-requires
+put-start-requires c κs =
+    let s = c .before .before in
+    let a = s .args in
+    (room-first (room-parts (accepted-parts (a .kind) (a .struck) (a .reopened)) (s .pre .0)), omega arith)
+
+put-spaced-requires : tie.Need-put-spaced-requires
+put-spaced-requires c κs =
+    let x = c .before .before .before in
+    let s = x .before .before .before in
+    let a = s .args in
+    let room = room-parts (accepted-parts (a .kind) (a .struck) (a .reopened)) (s .pre .0) in
+    (room-first (room-rest room (x .put-start .ensures)), omega arith)
+
+put-spaced-requires-2 : tie.Need-put-spaced-requires-2
+put-spaced-requires-2 c κs =
+    let y = c .before .before .before in
+    let x = y .before .before .before .before in
+    let s = x .before .before .before in
+    let a = s .args in
+    let room = room-parts (accepted-parts (a .kind) (a .struck) (a .reopened)) (s .pre .0) in
+    (room-first (room-rest (room-rest room (x .put-start .ensures)) (y .put-spaced .ensures)), omega arith)
+
+put-byte-requires : tie.Need-put-byte-requires
+put-byte-requires c κs =
+    let z = c .before .before .before in
+    let y = z .before .before .before .before in
+    let x = y .before .before .before .before in
+    let s = x .before .before .before in
+    let a = s .args in
+    let room = room-parts (accepted-parts (a .kind) (a .struck) (a .reopened)) (s .pre .0) in
+    room-first (room-rest (room-rest (room-rest room (x .put-start .ensures)) (y .put-spaced .ensures)) (z .put-spaced2 .ensures))
+
+same-length : tie.Need-same-length
+same-length c = search needs
+
+returns : tie.Need-returns
+returns c =
+    let b = c .before .before in
+    let z = b .before .before .before .before in
+    let y = z .before .before .before .before in
+    let x = y .before .before .before .before in
+    let a = x .before .before .before .args in
+    append-same (accepted-parts (a .kind) (a .struck) (a .reopened) .same)
+    (append-more (x .put-start .ensures) (append-more (y .put-spaced .ensures) (append-more (z .put-spaced2 .ensures) (b .put-byte .ensures))))
+
+pub accepted-line-spec : {M : Type 1} → statement M
+accepted-line-spec =
+    tie.close
+    (tie.spec
+    put-start-requires
+    put-spaced-requires
+    put-spaced-requires-2
+    put-byte-requires
+    same-length
+    returns)

@@ -1,0 +1,42 @@
+-- THE PARTS OF A LINE, in the order in which they are written. Assumes nothing.
+use mathlib.Core.Path.{_≡_, refl, sym, ap, _∙_}
+use mathlib.Core.List.{List, [], _∷_, _++_, append-assoc}
+use Prim.Native.Nat.{ℕ}
+use Rattle.model.specs.Sheet.{decimal, spaced, line, acceptedLine}
+use Rattle.lines.specs.Append.{Split}
+
+-- a line's letter and its first number
+abbrev pub start : ℕ → ℕ → List ℕ
+start letter n = letter ∷ spaced (n ∷ [])
+
+-- a space and the number's decimal
+abbrev pub spacedParts : ℕ → List (List ℕ)
+spacedParts n = (32 ∷ []) ∷ decimal n ∷ []
+
+pub spaced-parts : (n : ℕ) → Split (spacedParts n) (spaced (n ∷ []))
+spaced-parts n = record { same = refl }
+
+pub spaced-append : (ms ns : List ℕ) → spaced ms ++ spaced ns ≡ spaced (ms ++ ns)
+spaced-append [] ns = refl
+spaced-append (m ∷ ms) ns =
+    ap (λ (l : List ℕ). 32 ∷ l) (append-assoc (decimal m) (spaced ms) (spaced ns) ∙ ap (λ (l : List ℕ). decimal m ++ l) (spaced-append ms ns))
+
+-- a line is its start, its other numbers and byte 10
+abbrev pub lineParts : ℕ → ℕ → List ℕ → List (List ℕ)
+lineParts letter n ns = start letter n ∷ spaced ns ∷ (10 ∷ []) ∷ []
+
+pub line-parts : (letter n : ℕ) (ns : List ℕ) → Split (lineParts letter n ns) (line letter (n ∷ ns))
+line-parts letter n ns =
+    record {
+      same = sym (append-assoc (start letter n) (spaced ns) (10 ∷ []))
+          ∙ ap (λ (l : List ℕ). letter ∷ l ++ (10 ∷ [])) (spaced-append (n ∷ []) ns);
+    }
+
+abbrev pub acceptedParts : ℕ → ℕ → ℕ → List (List ℕ)
+acceptedParts k s r = start 97 k ∷ spaced (s ∷ []) ∷ spaced (r ∷ []) ∷ (10 ∷ []) ∷ []
+
+pub accepted-parts : (k s r : ℕ) → Split (acceptedParts k s r) (acceptedLine k s r)
+accepted-parts k s r =
+    let numbers : spaced (s ∷ []) ++ (spaced (r ∷ []) ++ (10 ∷ [])) ≡ spaced (s ∷ r ∷ []) ++ (10 ∷ []) =
+    sym (append-assoc (spaced (s ∷ [])) (spaced (r ∷ [])) (10 ∷ [])) ∙ ap (λ (l : List ℕ). l ++ (10 ∷ [])) (spaced-append (s ∷ []) (r ∷ [])) in
+    record { same = ap (λ (l : List ℕ). start 97 k ++ l) numbers ∙ line-parts 97 k (s ∷ r ∷ []) .same }
