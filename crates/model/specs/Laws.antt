@@ -11,3 +11,4 @@ pub mod Lists
 pub mod Samples
 pub mod Reports
 pub mod WrongBoards
+pub mod Questions
