@@ -85,10 +85,10 @@ module _ (s : State) {n : ℕ} where
   pub support-stands : (p k t : ℕ) → n ≡ firstOf (ruleChecks s p) → n ≢ 0 → n ≡ firstOf (supportChecks s p k t)
   support-stands p k t e r = refusal-stands (ruleChecks s p) (supportOwn s p k t) e r
 
-  pub support-decides : (p k t : ℕ) {columns held : ℕ} → n ≡ firstOf (ruleChecks s p) → n ≡ 0 → columns ≡ columnsHeld (s .value .heads) p
-      → held ≡ slotsHeld (s .value .heads) (getD (s .value .heads .calls) (4 * p + k) 0)
+  pub support-decides : (p k t : ℕ) {columns call held : ℕ} → n ≡ firstOf (ruleChecks s p) → n ≡ 0 → columns ≡ columnsHeld (s .value .heads) p
+      → call ≡ getD (s .value .heads .calls) (4 * p + k) 0 → held ≡ slotsHeld (s .value .heads) call
       → cond (leb columns k) 21 (cond (leb held t) 19 0) ≡ firstOf (supportChecks s p k t)
-  support-decides p k t e z h g = rw (h, g) (sym (rest-decides (ruleChecks s p) (supportOwn s p k t) tt e z))
+  support-decides p k t e z h a g = rw (h, g, a) (sym (rest-decides (ruleChecks s p) (supportOwn s p k t) tt e z))
 
 -- THE BOUNDS behind the checks that pass: buffers of their lengths, a rule's number, a row and a column
 lent-sizes : (lent : Lent) → badLent lent ≡ false → (lent .rows ≡ 16384) × (lent .killers ≡ 4096) × (lent .slots ≡ 1024)

@@ -1,5 +1,6 @@
 // The checks of each question, in the order of document 01's table: each makes those of the one before it first, and gives the number of the first that
 // holds, or 0. They look at no more of the value than the counts and heads that they are handed.
+use crate::read::byte_at;
 use crate::read::columns_held;
 use crate::read::rows_held;
 use crate::read::slots_held;
@@ -128,13 +129,13 @@ pub fn support_refusal(
     if refusal != 0 {
         return refusal;
     }
-    if columns_held(arity, rule) <= column {
+    let columns = columns_held(arity, rule);
+    let held = slots_held(
+        counts,
+        byte_at(calls, 4 * (rule as usize) + (column as usize)),
+    );
+    if columns <= column {
         return 21;
     }
-    let call = calls[4 * (rule as usize) + (column as usize)];
-    if slots_held(counts, call) <= slot {
-        19
-    } else {
-        0
-    }
+    if held <= slot { 19 } else { 0 }
 }

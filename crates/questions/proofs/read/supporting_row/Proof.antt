@@ -1,5 +1,5 @@
 -- The loop's invariant: none of the rows passed supports the slot, so the first that does is the first of all.
-use mathlib.Core.Path.{_≡_, sym, _∙_}
+use mathlib.Core.Path.{_≡_, sym}
 use mathlib.Core.Bool.{Bool, false}
 use Prim.Native.Nat.{ℕ, _≤_, _-_}
 use native.Mathlib.Numerals.{add-one}
@@ -34,7 +34,7 @@ returns c =
     let head = c .before .before .before in
     let a = head .before .before .before .args in
     let f = tests (a .rows .now) (a .killers .now) (a .rule) (a .column) (a .slot) in
-    sym (first-found (a .m) f (head .loop .w) (c .before .before .loop-test .taken) (→T (f (head .loop .w)) (sym (c .before .supports .ensures) ∙ c .if1 .taken)) (head .loop .inv .1))
+    sym (first-found (a .m) f (head .loop .w) (c .before .before .loop-test .taken) (→T (f (head .loop .w)) (rw (c .before .supports .ensures) at (c .if1 .taken))) (head .loop .inv .1))
 
 add-w : tie.Need-add-w Inv-loop μ-loop
 add-w c = search needs
@@ -46,7 +46,7 @@ loop-again : tie.Need-loop-again Inv-loop μ-loop
 loop-again c =
     let head = c .before .before .before in (
       omega arith,
-      rw (add-one, head .loop .inv .1) (sym (c .before .supports .ensures) ∙ c .if1 .left),
+      rw (add-one, head .loop .inv .1) (rw (c .before .supports .ensures) at (c .if1 .left)),
     )
 
 returns-2 : tie.Need-returns-2 Inv-loop μ-loop

@@ -1,13 +1,10 @@
--- The rule's refusal stands; where there is none, the code's tests are the definition's, in its order. A number that is not refused is below 64, and a
--- column below 4, so the call lies in the heads.
+-- The rule's refusal stands; where there is none, the code's tests are the definition's, in its order.
 use mathlib.Core.List.{[]}
-use mathlib.Core.Path.{refl}
-use native.Mathlib.Omega.{arith}
 use borrow.Author.Needs.{needs}
 use borrow.Author.Tests.{le-leb, lt-leb}
 use Rattle.model.specs.Representation.{State}
 use Rattle.questions.specs.Parts.{stateOfParts}
-use Rattle.questions.specs.Refusal.{support-stands, support-decides, rule-bounds}
+use Rattle.questions.specs.Refusal.{support-stands, support-decides}
 use Rattle.questions.proofs.refusal.support_refusal.Statement.{statement}
 use Rattle.questions.proofs.refusal.support_refusal.Tie as tie
 
@@ -25,47 +22,47 @@ returns c =
 columns-held-requires : tie.Need-columns-held-requires
 columns-held-requires c κs = search needs
 
-returns-2 : tie.Need-returns-2
-returns-2 c =
-    let asked = c .before .before .before in
-    let start = asked .before .before .before .before in
-    rw (le-leb _ _ (c .if2 .taken)) at
-    (support-decides (state start) (start .args .rule) (start .args .column) (start .args .slot) (asked .rule-refusal .ensures) (c .before .before .if1 .left)
-    (c .before .columns-held .ensures) refl)
+mul-byte-at : tie.Need-mul-byte-at
+mul-byte-at c = search needs
 
-mul-call : tie.Need-mul-call
-mul-call c = search needs
+add-byte-at : tie.Need-add-byte-at
+add-byte-at c = search needs
 
-add-call : tie.Need-add-call
-add-call c = search needs
-
-element-copy-out-call : tie.Need-element-copy-out-call
-element-copy-out-call c =
-    let asked = c .before .before .before in
-    let start = asked .before .before .before .before in
-    let rule = rule-bounds (state start) (start .args .rule) (asked .rule-refusal .ensures) (c .before .before .if1 .left) in
-    omega (arith, rule .2, c .if2 .left, c .before .columns-held .ensures)
+byte-at-requires : tie.Need-byte-at-requires
+byte-at-requires c κs = search needs
 
 slots-held-requires : tie.Need-slots-held-requires
 slots-held-requires c κs = search needs
 
+returns-2 : tie.Need-returns-2
+returns-2 c =
+    let held = c .before in
+    let columns = held .before .before .before in
+    let asked = columns .before .before in
+    let start = asked .before .before .before .before in
+    rw (le-leb _ _ (c .if2 .taken)) at
+    (support-decides (state start) (start .args .rule) (start .args .column) (start .args .slot) (asked .rule-refusal .ensures) (columns .before .if1 .left)
+    (columns .columns-held .ensures) (held .before .byte-at .ensures) (held .slots-held .ensures))
+
 returns-3 : tie.Need-returns-3
 returns-3 c =
-    let column = c .before .before .before in
-    let asked = column .before .before .before in
+    let held = c .before .before in
+    let columns = held .before .before .before in
+    let asked = columns .before .before in
     let start = asked .before .before .before .before in
-    rw (lt-leb _ _ (column .if2 .left), le-leb _ _ (c .if3 .taken)) at
-    (support-decides (state start) (start .args .rule) (start .args .column) (start .args .slot) (asked .rule-refusal .ensures) (column .before .before .if1 .left)
-    (column .before .columns-held .ensures) (c .before .slots-held .ensures))
+    rw (lt-leb _ _ (c .before .if2 .left), le-leb _ _ (c .if3 .taken)) at
+    (support-decides (state start) (start .args .rule) (start .args .column) (start .args .slot) (asked .rule-refusal .ensures) (columns .before .if1 .left)
+    (columns .columns-held .ensures) (held .before .byte-at .ensures) (held .slots-held .ensures))
 
 returns-4 : tie.Need-returns-4
 returns-4 c =
-    let column = c .before .before .before in
-    let asked = column .before .before .before in
+    let held = c .before .before in
+    let columns = held .before .before .before in
+    let asked = columns .before .before in
     let start = asked .before .before .before .before in
-    rw (lt-leb _ _ (column .if2 .left), lt-leb _ _ (c .if3 .left)) at
-    (support-decides (state start) (start .args .rule) (start .args .column) (start .args .slot) (asked .rule-refusal .ensures) (column .before .before .if1 .left)
-    (column .before .columns-held .ensures) (c .before .slots-held .ensures))
+    rw (lt-leb _ _ (c .before .if2 .left), lt-leb _ _ (c .if3 .left)) at
+    (support-decides (state start) (start .args .rule) (start .args .column) (start .args .slot) (asked .rule-refusal .ensures) (columns .before .if1 .left)
+    (columns .columns-held .ensures) (held .before .byte-at .ensures) (held .slots-held .ensures))
 
 pub support-refusal-spec : {M : Type 1} → statement M
 support-refusal-spec =
@@ -74,10 +71,10 @@ support-refusal-spec =
     rule-refusal-requires
     returns
     columns-held-requires
-    returns-2
-    mul-call
-    add-call
-    element-copy-out-call
+    mul-byte-at
+    add-byte-at
+    byte-at-requires
     slots-held-requires
+    returns-2
     returns-3
     returns-4)
