@@ -1,7 +1,7 @@
 // The questions: the slots of a call, the state of a slot, a row's state and its four bytes, and the support of a slot in a rule's column.
 // Proved: each answer meets its promise of the model's specs/Questions.antt, on any value and any buffers. Assumed: nothing.
-pub mod read; // bytes of the value and of the lent buffers
-pub mod refusal; // the checks of each question
+mod read; // bytes of the value and of the lent buffers
+mod refusal; // the checks of each question
 
 use crate::read::byte_at;
 use crate::read::open_mask;

@@ -130,10 +130,8 @@ pub fn support_refusal(
         return refusal;
     }
     let columns = columns_held(arity, rule);
-    let held = slots_held(
-        counts,
-        byte_at(calls, 4 * (rule as usize) + (column as usize)),
-    );
+    let call = byte_at(calls, 4 * (rule as usize) + (column as usize));
+    let held = slots_held(counts, call);
     if columns <= column {
         return 21;
     }
