@@ -11,4 +11,8 @@ pub mod Lists
 pub mod Samples
 pub mod Reports
 pub mod WrongBoards
+<<<<<<< HEAD
 pub mod Entry
+=======
+pub mod Questions
+>>>>>>> questions

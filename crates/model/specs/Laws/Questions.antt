@@ -1,0 +1,343 @@
+-- THE QUESTIONS' EQUATIONS SAY WHAT THEIR ANSWERS MEAN: on a state that is a ledger's, the checks off the value are the conditions off the ledger, and the
+-- bytes that an answer is read off are what the board's records say. Assumes nothing.
+use mathlib.Core.Path.{_≡_, refl, sym, ap, subst, _∙_}
+use mathlib.Core.Bool.{Bool, true, false, true≢false, _||_, cond}
+use mathlib.Core.List.{List, [], _∷_}
+use mathlib.Core.Logic.{_↔_, _⊎_, inl, inr, ⊎-elim}
+use mathlib.Core.Option.{Option, none, some}
+use Prim.Native.Nat.{ℕ, zero, suc, _+_, _*_, _<_, _≤_}
+use native.Mathlib.Omega.{arith}
+use native.Mathlib.Nat.{eq-or-lt-of-le, le-of-suc-le-suc}
+use lib.ListN.{length, getD, drop, length-drop, List·getD-eq-default}
+use lib.Seq.{getD-take, getD-drop, length-take-le}
+use lib.Dec.{T, eqb, ltb, leb, eqb→eq}
+use borrow.Author.Tests.{ltb-false, leb-false, lt-ltb, le-ltb, le-leb, lt-leb, eq-eqb, ne-eqb}
+use Rattle.tables.specs.Facts.{true-false, true-or-false, lt-or-le}
+use Rattle.model.specs.declared.answer.SlotState.the-variants as state
+use Rattle.model.specs.declared.answer.RowState.the-variants as row
+use Rattle.model.specs.declared.answer.Support.the-variants as support
+use Rattle.model.specs.Board.{Rule, Board, callAt, slotAt, OnBoard, InForce, Alive, Dead, Shape}
+use Rattle.model.specs.Records.{Struck, Caused, KillerIn, Recorded}
+use Rattle.model.specs.Tests.{some?, count, first, isNone}
+use Rattle.model.specs.Ledger.{Ledger, LedgerShape, firstOf, noBoard, notInForce}
+use Rattle.model.specs.Report.{markOf, open?}
+use Rattle.model.specs.Promise.{valuesAt}
+use Rattle.model.specs.Representation.{State, lentOf, ruleOr, ruleAt, killerOf, Represents}
+use Rattle.model.specs.Questions.{boardConditions, callConditions, slotConditions, ruleConditions, rowConditions, supportConditions, slotsHeld, columnsHeld, rowsHeld, boardChecks, callChecks, slotChecks, ruleChecks, rowChecks, supportChecks, maskOf, slotsNumber, slotsValues, slotsBy, slotsAnswer, SlotsPromise, stateNumber, stateBy, stateAnswer, StateMeans, StatePromise, rowNumber, rowBy, rowAnswer, RowMeans, RowPromise, bytesBy, rowBytesAnswer, RowBytesPromise, supportNumber, supports?, foundRow, supportBy, supportAnswer, SupportMeans, SupportPromise}
+use Rattle.model.specs.Laws.Tests.{or-false, and→, →and, →T, T→, →some, →eqb, none-passes}
+use Rattle.model.specs.Laws.Theory.{open-viable, struck-caused, row-records}
+use Rattle.model.specs.Laws.Shapes.{passed}
+use Rattle.model.specs.Laws.Change.{column-below}
+
+-- THE FIRST NUMBER that passes a test
+pub first-some : (n : ℕ) (f : ℕ → Bool) → T (some? n f) → (first n f < n) × T (f (first n f))
+first-some zero f t = absurd t
+first-some (suc n) f t = go (some? n f) (λ u. first-some n f u) (f n) refl t
+  where
+    go : (b : Bool) → (T b → (first n f < n) × T (f (first n f))) → (d : Bool) → f n ≡ d → T (b || d)
+        → (cond b (first n f) (cond d n (suc n)) < suc n) × T (f (cond b (first n f) (cond d n (suc n))))
+    go true ih d e u = let r = ih tt in let l = r .0 in (omega arith, r .1)
+    go false ih true e u = (omega arith, rw e tt)
+    go false ih false e u = absurd u
+
+pub first-none : (n : ℕ) (f : ℕ → Bool) → some? n f ≡ false → first n f ≡ n
+first-none zero f e = refl
+first-none (suc n) f e = let q = or-false (some? n f) (f n) e in rw (q .0, q .1) refl
+
+pub first-found : (n : ℕ) (f : ℕ → Bool) (w : ℕ) → w < n → T (f w) → some? w f ≡ false → first n f ≡ w
+first-found zero f w h t e = absurd (omega arith)
+first-found (suc n) f w h t e = go (λ l. first-found n f w l t e) (eq-or-lt-of-le (le-of-suc-le-suc h))
+  where
+    go : (w < n → first n f ≡ w) → (w ≡ n) ⊎ (w < n) → first (suc n) f ≡ w
+    go ih (inl q) = rw (← q, e, T→ (f w) t) refl
+    go ih (inr l) = rw (T→ (some? n f) (→some n f w l t)) (ih l)
+
+-- WHAT THE RECORDS MEAN: a slot's byte, and a row's
+module _ (B : Board) (mark killer : ℕ → ℕ → ℕ) (known : Recorded B mark killer) where
+  state-means : (c t : ℕ) → OnBoard B c t → StateMeans B c t (stateBy 0 (mark c t))
+  state-means c t on = go (known .sound .either c t on)
+    where
+      go : (mark c t ≡ 255) ⊎ (mark c t < 64) → StateMeans B c t (stateBy 0 (mark c t))
+      go (inl e) = rw (eq-eqb (mark c t) 255 e) (open-viable B mark killer known c t .0 (on, e))
+      go (inr lt) =
+          let why : Caused B mark c t = struck-caused B mark killer known c t (on, lt) in
+          rw (ne-eqb (mark c t) 255 (λ e. omega arith)) (
+            λ v. omega (arith, open-viable B mark killer known c t .1 v .1),
+            (why .rule, why .force, why .call),
+          )
+
+  -- a row without a killer is alive, and the other way round
+  killer-none : Shape B → (p : ℕ) (r : Rule) → InForce B p r → (w : ℕ) → w < length (r .rows) → (killer p w ≡ 255) ↔ Alive B r w
+  killer-none shape p r f w lw = go (row-records B mark killer known p r f w lw)
+    where
+      go : ((killer p w ≡ 255) × Alive B r w) ⊎ (KillerIn B killer (Struck B mark) r p w × Dead B r w) → (killer p w ≡ 255) ↔ Alive B r w
+      go (inl a) = (λ e. a .1, λ a′. a .0)
+      go (inr d) = (λ e. absurd (omega (arith, column-below B shape p r f (killer p w) (d .0 .column))), λ a. absurd (d .1 a))
+
+  row-means : Shape B → (p : ℕ) (r : Rule) → InForce B p r → (w : ℕ) → w < length (r .rows) → RowMeans B r w (rowBy 0 (killer p w))
+  row-means shape p r f w lw = go (row-records B mark killer known p r f w lw)
+    where
+      go : ((killer p w ≡ 255) × Alive B r w) ⊎ (KillerIn B killer (Struck B mark) r p w × Dead B r w) → RowMeans B r w (rowBy 0 (killer p w))
+      go (inl a) = rw (eq-eqb (killer p w) 255 (a .0)) (a .1)
+      go (inr d) =
+          let k = killer p w in
+          let column = d .0 .column in
+          let struck = d .0 .member .1 in
+          rw (ne-eqb k 255 (λ e. omega (arith, column-below B shape p r f k column))) (
+            column,
+            λ v. omega (arith, open-viable B mark killer known (callAt r k) (slotAt r w k) .1 v .1),
+          )
+
+-- WHAT THE HEADS HOLD of a ledger: each of its numbers, whatever the call or the rule's number
+module _ (L : Ledger) (shape : LedgerShape L) (s : State) (rep : Represents L s) where
+  limits : (p : ℕ) → (length (ruleAt (L .board) p .calls) ≤ 4) × (length (ruleAt (L .board) p .rows) ≤ 64)
+  limits p = go (getD (L .board .rules) p none) refl
+    where
+      go : (o : Option Rule) → getD (L .board .rules) p none ≡ o → (length (ruleOr o .calls) ≤ 4) × (length (ruleOr o .rows) ≤ 64)
+      go none e = (omega arith, omega arith)
+      go (some r) e = let g = shape .board .rules p r e in (g .most, g .few)
+
+  -- a number past the last is no rule's
+  no-rule : (p : ℕ) → 64 ≤ p → ruleAt (L .board) p ≡ ruleOr none
+  no-rule p le = ap ruleOr (List·getD-eq-default (L .board .rules) none (omega (arith, shape .board .numbers)))
+
+  pub slots-held : (c : ℕ) → slotsHeld (s .value .heads) c ≡ getD (L .board .counts) c 0
+  slots-held c =
+      ⊎-elim (rep .stored .headed .counts c)
+      (λ le.
+      List·getD-eq-default (s .value .heads .counts) 0 (omega (arith, rep .stored .headed .counts-size))
+      ∙ sym (List·getD-eq-default (L .board .counts) 0 (omega (arith, shape .board .calls))))
+      (lt-or-le c 32)
+
+  pub columns-held : (p : ℕ) → columnsHeld (s .value .heads) p ≡ length (ruleAt (L .board) p .calls)
+  columns-held p =
+      ⊎-elim (λ lt. omega (arith, rep .stored .headed .arity p lt, limits p .0))
+      (λ le.
+      omega (
+        arith,
+        ap (λ (r : Rule). length (r .calls)) (no-rule p le),
+        List·getD-eq-default (s .value .heads .arity) 0 {n = p} (omega (arith, rep .stored .headed .arity-size)),
+      ))
+      (lt-or-le p 64)
+
+  pub rows-held : (p : ℕ) → rowsHeld (s .value .heads) p ≡ length (ruleAt (L .board) p .rows)
+  rows-held p =
+      ⊎-elim (λ lt. omega (arith, rep .stored .headed .lengths p lt, limits p .1))
+      (λ le.
+      omega (
+        arith,
+        ap (λ (r : Rule). length (r .rows)) (no-rule p le),
+        List·getD-eq-default (s .value .heads .lengths) 0 {n = p} (omega (arith, rep .stored .headed .lengths-size)),
+      ))
+      (lt-or-le p 64)
+
+  -- a count of 0 is no call's, and an arity of 0 no rule's
+  no-call : (c : ℕ) → eqb (slotsHeld (s .value .heads) c) 0 ≡ leb (length (L .board .counts)) c
+  no-call c =
+      ap (λ (n : ℕ). eqb n 0) (slots-held c)
+      ∙ ⊎-elim
+      (λ lt. let pos = shape .board .counts c lt .0 in ne-eqb (getD (L .board .counts) c 0) 0 (λ e. omega arith) ∙ sym (lt-leb (length (L .board .counts)) c lt))
+      (λ le. eq-eqb (getD (L .board .counts) c 0) 0 (List·getD-eq-default (L .board .counts) 0 le) ∙ sym (le-leb (length (L .board .counts)) c le))
+      (lt-or-le c (length (L .board .counts)))
+
+  no-board : eqb (slotsHeld (s .value .heads) 0) 0 ≡ noBoard L
+  no-board =
+      no-call 0
+      ∙ ⊎-elim (λ lt. lt-leb (length (L .board .counts)) 0 lt ∙ sym (ne-eqb (length (L .board .counts)) 0 (λ e. omega arith)))
+      (λ le. le-leb (length (L .board .counts)) 0 le ∙ sym (eq-eqb (length (L .board .counts)) 0 (omega arith)))
+      (lt-or-le 0 (length (L .board .counts)))
+
+  not-in-force : (p : ℕ) → eqb (columnsHeld (s .value .heads) p) 0 ≡ notInForce L p
+  not-in-force p = ap (λ (n : ℕ). eqb n 0) (columns-held p) ∙ go (getD (L .board .rules) p none) refl
+    where
+      go : (o : Option Rule) → getD (L .board .rules) p none ≡ o → eqb (length (ruleOr o .calls)) 0 ≡ isNone o
+      go none e = refl
+      go (some r) e = let pos = shape .board .rules p r e .least in ne-eqb (length (r .calls)) 0 (λ e. omega arith)
+
+  -- THE CHECKS ARE THE CONDITIONS
+  pub board-checks : boardChecks s ≡ boardConditions L (lentOf s)
+  board-checks = rw no-board refl
+
+  pub call-checks : (c : ℕ) → callChecks s c ≡ callConditions L (lentOf s) c
+  call-checks c = rw (no-board, no-call c) refl
+
+  pub slot-checks : (c t : ℕ) → slotChecks s c t ≡ slotConditions L (lentOf s) c t
+  slot-checks c t = rw (no-board, no-call c, slots-held c) refl
+
+  pub rule-checks : (p : ℕ) → ruleChecks s p ≡ ruleConditions L (lentOf s) p
+  rule-checks p = rw (no-board, not-in-force p) refl
+
+  pub row-checks : (p w : ℕ) → rowChecks s p w ≡ rowConditions L (lentOf s) p w
+  row-checks p w = rw (no-board, not-in-force p, rows-held p) refl
+
+  -- where the column is refused, 21, the slot is not looked at
+  pub support-checks : (p k t : ℕ) → firstOf (supportChecks s p k t) ≡ firstOf (supportConditions L (lentOf s) p k t)
+  support-checks p k t =
+      rw (no-board, not-in-force p, columns-held p)
+      (⊎-elim (λ lt. let in-rule = columns p k lt in rw (rep .stored .headed .calls p k (in-rule .0) (in-rule .1), slots-held (callAt (ruleAt (L .board) p) k)) refl)
+      (λ le. rw (le-leb (length (ruleAt (L .board) p .calls)) k le) refl)
+      (lt-or-le k (length (ruleAt (L .board) p .calls))))
+    where
+      columns : (p k : ℕ) → k < length (ruleAt (L .board) p .calls) → (p < 64) × (k < 4)
+      columns p k lt =
+          let few = limits p .0 in
+          (⊎-elim (λ h. h) (λ le. absurd (omega (arith, ap (λ (r : Rule). length (r .calls)) (no-rule p le)))) (lt-or-le p 64), omega arith)
+
+  -- WHAT THE CONDITIONS THAT DO NOT HOLD GIVE: a slot of the board; a rule in force with that row, or with that column
+  slot-on-board : (c t : ℕ) → firstOf (slotConditions L (lentOf s) c t) ≡ 0 → OnBoard (L .board) c t
+  slot-on-board c t e = let q = passed (slotConditions L (lentOf s) c t) tt e in leb-false (getD (L .board .counts) c 0) t (q .1 .1 .1 .0)
+
+  in-force : (p : ℕ) → notInForce L p ≡ false → InForce (L .board) p (ruleAt (L .board) p)
+  in-force p e = go (getD (L .board .rules) p none) e
+    where
+      go : (o : Option Rule) → isNone o ≡ false → o ≡ some (ruleOr o)
+      go none e = absurd (true≢false e)
+      go (some r) e = refl
+
+  row-there : (p w : ℕ) → firstOf (rowConditions L (lentOf s) p w) ≡ 0
+      → (p < 64) × InForce (L .board) p (ruleAt (L .board) p) × (w < length (ruleAt (L .board) p .rows))
+  row-there p w e =
+      let q = passed (rowConditions L (lentOf s) p w) tt e in
+      (omega (arith, ltb-false 63 p (q .1 .1 .0)), in-force p (q .1 .1 .1 .0), leb-false (length (ruleAt (L .board) p .rows)) w (q .1 .1 .1 .1 .0))
+
+  column-there : (p k t : ℕ) → firstOf (supportConditions L (lentOf s) p k t) ≡ 0
+      → (p < 64) × InForce (L .board) p (ruleAt (L .board) p) × (k < length (ruleAt (L .board) p .calls))
+  column-there p k t e =
+      let q = passed (supportConditions L (lentOf s) p k t) tt e in
+      (omega (arith, ltb-false 63 p (q .1 .1 .0)), in-force p (q .1 .1 .1 .0), leb-false (length (ruleAt (L .board) p .calls)) k (q .1 .1 .1 .1 .0))
+
+  -- A ROW SUPPORTS a slot in a column exactly where it is alive and has it there
+  supports-means : (p k t w : ℕ) → p < 64 → InForce (L .board) p (ruleAt (L .board) p) → k < length (ruleAt (L .board) p .calls) → w < length (ruleAt (L .board) p .rows)
+      → T (supports? s p k t w) ↔ (Alive (L .board) (ruleAt (L .board) p) w × (slotAt (ruleAt (L .board) p) w k ≡ t))
+  supports-means p k t w lp f lk lw =
+      let alive = killer-none (L .board) (markOf (s .slots)) (killerOf (s .killers)) (rep .stored .recorded) (shape .board) p (ruleAt (L .board) p) f w lw in
+      let most = limits p in
+      let byte = rep .stored .row-bytes .bytes p w k lp (omega arith) (omega arith) in
+      let living = eqb (killerOf (s .killers) p w) 255 in
+      let there = eqb (getD (s .rows) (256 * p + 4 * w + k) 0) t in (
+        λ h. let b = and→ living there h in (alive .0 (eqb→eq (killerOf (s .killers) p w) 255 (b .0)), sym byte ∙ eqb→eq (getD (s .rows) (256 * p + 4 * w + k) 0) t (b .1)),
+        λ h. →and living there (→eqb (killerOf (s .killers) p w) 255 (alive .1 (h .0))) (→eqb (getD (s .rows) (256 * p + 4 * w + k) 0) t (byte ∙ h .1)),
+      )
+
+  support-means : (p k t : ℕ) → p < 64 → InForce (L .board) p (ruleAt (L .board) p) → k < length (ruleAt (L .board) p .calls)
+      → SupportMeans (L .board) (ruleAt (L .board) p) k t (foundRow (length (ruleAt (L .board) p .rows)) (first (length (ruleAt (L .board) p .rows)) (supports? s p k t)))
+  support-means p k t lp f lk = go (true-or-false (some? m (supports? s p k t)))
+    where
+      m : ℕ
+      m = length (ruleAt (L .board) p .rows)
+
+      go : (some? m (supports? s p k t) ≡ true) ⊎ (some? m (supports? s p k t) ≡ false)
+          → SupportMeans (L .board) (ruleAt (L .board) p) k t (foundRow m (first m (supports? s p k t)))
+      go (inl e) =
+          let found = first-some m (supports? s p k t) (→T (some? m (supports? s p k t)) e) in
+          let w = first m (supports? s p k t) in
+          let said = supports-means p k t w lp f lk (found .0) .0 (found .1) in
+          rw (lt-ltb w m (found .0)) (found .0, said .0, said .1)
+      go (inr e) =
+          rw (first-none m (supports? s p k t) e, le-ltb m m (omega arith))
+          (λ w lw alive has. true-false (T→ (supports? s p k t w) (supports-means p k t w lp f lk lw .1 (alive, has))) (none-passes m (supports? s p k t) e w lw))
+
+-- AN ANSWER'S NUMBER is that of the refusal, and its values go with it
+slots-number : (n : ℕ) (bytes : List ℕ) (c : ℕ) → slotsNumber (slotsBy n bytes c) ≡ n
+slots-number zero bytes c = refl
+slots-number (suc n) bytes c = refl
+
+slots-values : (n : ℕ) (bytes : List ℕ) (c : ℕ)
+    → slotsValues (slotsBy n bytes c) ≡ valuesAt n (maskOf 32 (open? bytes c) ∷ count 32 (open? bytes c) ∷ [])
+slots-values zero bytes c = refl
+slots-values (suc n) bytes c = refl
+
+state-number : (n byte : ℕ) → stateNumber (stateBy n byte) ≡ n
+state-number (suc n) byte = refl
+state-number zero byte = go (eqb byte 255)
+  where
+    go : (b : Bool) → stateNumber (cond b state.Open (state.Struck byte)) ≡ 0
+    go true = refl
+    go false = refl
+
+row-number : (n byte : ℕ) → rowNumber (rowBy n byte) ≡ n
+row-number (suc n) byte = refl
+row-number zero byte = go (eqb byte 255)
+  where
+    go : (b : Bool) → rowNumber (cond b row.Alive (row.Killed byte)) ≡ 0
+    go true = refl
+    go false = refl
+
+support-number : (n m w : ℕ) → supportNumber (supportBy n m w) ≡ n
+support-number (suc n) m w = refl
+support-number zero m w = go (ltb w m)
+  where
+    go : (b : Bool) → supportNumber (cond b (support.Row w) support.Nothing) ≡ 0
+    go true = refl
+    go false = refl
+
+-- THE PROMISES
+pub slots-promise : (s : State) (c : ℕ) → SlotsPromise s c (slotsAnswer s c)
+slots-promise s c =
+    record {
+      equation = refl;
+      answered = λ L shape rep. let e = ap firstOf (call-checks L shape s rep c) in
+          record {
+            number = slots-number (firstOf (callChecks s c)) (s .slots) c ∙ e;
+            values = slots-values (firstOf (callChecks s c)) (s .slots) c
+                ∙ ap (λ (n : ℕ). valuesAt n (maskOf 32 (open? (s .slots) c) ∷ count 32 (open? (s .slots) c) ∷ [])) e;
+          };
+    }
+
+pub state-promise : (s : State) (c t : ℕ) → StatePromise s c t (stateAnswer s c t)
+state-promise s c t =
+    record {
+      equation = refl;
+      answered = λ L shape rep. let e = ap firstOf (slot-checks L shape s rep c t) in
+          record {
+            number = state-number (firstOf (slotChecks s c t)) (markOf (s .slots) c t) ∙ e;
+            means = λ z. subst (λ (n : ℕ). StateMeans (L .board) c t (stateBy n (markOf (s .slots) c t))) (sym (e ∙ z))
+                (state-means (L .board) (markOf (s .slots)) (killerOf (s .killers)) (rep .stored .recorded) c t (slot-on-board L shape s rep c t z));
+          };
+    }
+
+pub row-promise : (s : State) (p w : ℕ) → RowPromise s p w (rowAnswer s p w)
+row-promise s p w =
+    record {
+      equation = refl;
+      answered = λ L shape rep. let e = ap firstOf (row-checks L shape s rep p w) in
+          record {
+            number = row-number (firstOf (rowChecks s p w)) (killerOf (s .killers) p w) ∙ e;
+            means = λ z. let there = row-there L shape s rep p w z in
+                subst (λ (n : ℕ). RowMeans (L .board) (ruleAt (L .board) p) w (rowBy n (killerOf (s .killers) p w))) (sym (e ∙ z))
+                (row-means (L .board) (markOf (s .slots)) (killerOf (s .killers)) (rep .stored .recorded) (shape .board) p (ruleAt (L .board) p) (there .1) w (there .2));
+          };
+    }
+
+pub row-bytes-promise : (s : State) (p w : ℕ) → RowBytesPromise s p w (rowBytesAnswer s p w)
+row-bytes-promise s p w =
+    record {
+      equation = refl;
+      answered = λ L shape rep. let e = ap firstOf (row-checks L shape s rep p w) in
+          record {
+            refused = λ n z. ap (λ (n : ℕ). bytesBy n (s .rows) p w) (e ∙ z);
+            size = λ z. let there = row-there L shape s rep p w z in let most = limits L shape s rep p in let last = there .2 in let size = rep .stored .row-bytes .rows-size in
+                ap (λ (n : ℕ). length (bytesBy n (s .rows) p w)) (e ∙ z)
+                ∙ length-take-le 4 (drop (256 * p + 4 * w) (s .rows)) (omega (arith, there .0, length-drop (256 * p + 4 * w) (s .rows)));
+            means = λ z k lk. let there = row-there L shape s rep p w z in let most = limits L shape s rep p in let last = there .2 in
+                ap (λ (n : ℕ). getD (bytesBy n (s .rows) p w) k 0) (e ∙ z)
+                ∙ getD-take 4 (drop (256 * p + 4 * w) (s .rows)) k 0 lk
+                ∙ getD-drop (256 * p + 4 * w) (s .rows) k 0
+                ∙ rep .stored .row-bytes .bytes p w k (there .0) (omega arith) lk;
+          };
+    }
+
+pub support-promise : (s : State) (p k t : ℕ) → SupportPromise s p k t (supportAnswer s p k t)
+support-promise s p k t =
+    record {
+      equation = refl;
+      answered = λ L shape rep. let e = support-checks L shape s rep p k t in
+          record {
+            number = support-number (firstOf (supportChecks s p k t)) (rowsHeld (s .value .heads) p) (first (rowsHeld (s .value .heads) p) (supports? s p k t)) ∙ e;
+            means = λ z. let there = column-there L shape s rep p k t z in
+                subst (λ (n : ℕ). SupportMeans (L .board) (ruleAt (L .board) p) k t (supportBy n (rowsHeld (s .value .heads) p) (first (rowsHeld (s .value .heads) p) (supports? s p k t))))
+                (sym (e ∙ z))
+                (subst (λ (m : ℕ). SupportMeans (L .board) (ruleAt (L .board) p) k t (foundRow m (first m (supports? s p k t)))) (sym (rows-held L shape s rep p))
+                (support-means L shape s rep p k t (there .0) (there .1) (there .2)));
+          };
+    }

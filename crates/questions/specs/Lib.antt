@@ -1,0 +1,4 @@
+pub mod Parts
+pub mod Mask
+pub mod Refusal
+pub mod Answers

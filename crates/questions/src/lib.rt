@@ -1,0 +1,145 @@
+// The questions: the slots of a call, the state of a slot, a row's state and its four bytes, and the support of a slot in a rule's column.
+// Proved: each answer meets its promise of the model's specs/Questions.antt, on any value and any buffers. Assumed: nothing.
+mod read; // bytes of the value and of the lent buffers
+mod refusal; // the checks of each question
+
+use crate::read::byte_at;
+use crate::read::open_mask;
+use crate::read::rows_held;
+use crate::read::supporting_row;
+use crate::refusal::call_refusal;
+use crate::refusal::row_refusal;
+use crate::refusal::slot_refusal;
+use crate::refusal::support_refusal;
+use model::answer::OpenSlots;
+use model::answer::RowState;
+use model::answer::SlotState;
+use model::answer::Support;
+use model::value::Value;
+ghost use Rattle.model.specs.Questions.{SlotsPromise, StatePromise, RowPromise, RowBytesPromise, SupportPromise};
+ghost use Rattle.questions.specs.Parts.{stateOf};
+
+// The mask of a call's open slots, with the number of its ones.
+pub fn open_slots(value: Value, rows: &[u8], killers: &[u8], slots: &[u8], call: u8) -> OpenSlots
+    ensures { λ r. ⌜ SlotsPromise (stateOf value (now (rows .entry)) (now (killers .entry)) (now (slots .entry))) call r ⌝ }
+{
+    let counts = value.heads.counts;
+    let refusal = call_refusal(&counts, rows, killers, slots, call);
+    if refusal != 0 {
+        return OpenSlots::Refused(refusal);
+    }
+    let mask = open_mask(slots, call);
+    OpenSlots::Mask(mask, u32::count_ones(mask))
+}
+
+// Open, or struck with its cause.
+pub fn slot_state(
+    value: Value,
+    rows: &[u8],
+    killers: &[u8],
+    slots: &[u8],
+    call: u8,
+    slot: u8,
+) -> SlotState
+    ensures { λ r. ⌜ StatePromise (stateOf value (now (rows .entry)) (now (killers .entry)) (now (slots .entry))) call slot r ⌝ }
+{
+    let counts = value.heads.counts;
+    let refusal = slot_refusal(&counts, rows, killers, slots, call, slot);
+    if refusal != 0 {
+        return SlotState::Refused(refusal);
+    }
+    // a value that the host altered may count more than 32 slots, so the place may lie past the buffer
+    let byte = byte_at(slots, 32 * (call as usize) + (slot as usize));
+    if byte == 255 {
+        SlotState::Open
+    } else {
+        SlotState::Struck(byte)
+    }
+}
+
+// Alive, or its killer's column.
+pub fn row_state(
+    value: Value,
+    rows: &[u8],
+    killers: &[u8],
+    slots: &[u8],
+    rule: u8,
+    row: u8,
+) -> RowState
+    ensures { λ r. ⌜ RowPromise (stateOf value (now (rows .entry)) (now (killers .entry)) (now (slots .entry))) rule row r ⌝ }
+{
+    let counts = value.heads.counts;
+    let arity = value.heads.arity;
+    let lengths = value.heads.lengths;
+    let refusal = row_refusal(&counts, &arity, &lengths, rows, killers, slots, rule, row);
+    if refusal != 0 {
+        return RowState::Refused(refusal);
+    }
+    let byte = killers[64 * (rule as usize) + (row as usize)];
+    if byte == 255 {
+        RowState::Alive
+    } else {
+        RowState::Killed(byte)
+    }
+}
+
+// The row's four bytes where they lie in the lent buffer, and no byte of it where `row_state` refuses.
+pub fn row_bytes<'a>(
+    value: Value,
+    rows: &'a [u8],
+    killers: &[u8],
+    slots: &[u8],
+    rule: u8,
+    row: u8,
+) -> &'a [u8]
+    ensures { λ r. ⌜ RowBytesPromise (stateOf value (now (rows .entry)) (now (killers .entry)) (now (slots .entry))) rule row (now r) ⌝ }
+{
+    let counts = value.heads.counts;
+    let arity = value.heads.arity;
+    let lengths = value.heads.lengths;
+    let refusal = row_refusal(&counts, &arity, &lengths, rows, killers, slots, rule, row);
+    if refusal != 0 {
+        return &rows[..0];
+    }
+    let start = 256 * (rule as usize) + 4 * (row as usize);
+    &rows[start..start + 4]
+}
+
+// The lowest living row that holds the slot in the rule's column, or none.
+pub fn support(
+    value: Value,
+    rows: &[u8],
+    killers: &[u8],
+    slots: &[u8],
+    rule: u8,
+    column: u8,
+    slot: u8,
+) -> Support
+    ensures { λ r. ⌜ SupportPromise (stateOf value (now (rows .entry)) (now (killers .entry)) (now (slots .entry))) rule column slot r ⌝ }
+{
+    let counts = value.heads.counts;
+    let arity = value.heads.arity;
+    let calls = value.heads.calls;
+    let lengths = value.heads.lengths;
+    let refusal = support_refusal(
+        &counts,
+        &arity,
+        &calls,
+        rows,
+        killers,
+        slots,
+        rule,
+        column,
+        slot,
+    );
+    if refusal != 0 {
+        return Support::Refused(refusal);
+    }
+    let held = rows_held(&lengths, rule) as usize;
+    let row = supporting_row(rows, killers, rule as usize, held, column as usize, slot);
+    if row < held {
+        Support::Row(row as u8)
+    } else {
+        Support::Nothing
+    }
+}

@@ -1,0 +1,97 @@
+// What the questions read: bytes of the value and of the lent buffers.
+ghost use mathlib.Core.Path.{_≡_};
+ghost use mathlib.Core.List.{[]};
+ghost use Prim.Native.Nat.{_+_, min};
+ghost use lib.ListN.{getD};
+ghost use lib.Dec.{eqb};
+ghost use Rattle.model.specs.Tests.{first};
+ghost use Rattle.model.specs.Report.{open?};
+ghost use Rattle.model.specs.Questions.{maskOf, supports?};
+ghost use Rattle.questions.specs.Mask.{digit};
+ghost use Rattle.questions.specs.Parts.{stateOfParts, Searchable};
+
+// The byte at a place; 0 past the end.
+pub fn byte_at(bytes: &[u8], at: usize) -> u8
+    ensures { λ r. ⌜ r ≡ getD (now (bytes .entry)) at 0 ⌝ }
+{
+    if at < bytes.len() { bytes[at] } else { 0 }
+}
+
+// x, but at most n.
+fn cap(x: u8, n: u8) -> u8
+    ensures { λ r. ⌜ r ≡ min x n ⌝ }
+{
+    if x < n { x } else { n }
+}
+
+// The slots of a call; 0 where there is no such call.
+pub fn slots_held(counts: &[u8; 32], call: u8) -> u8
+    ensures { λ r. ⌜ r ≡ getD (now (counts .entry)) call 0 ⌝ }
+{
+    byte_at(counts, call as usize)
+}
+
+// The columns of a rule; 0 where the number is not in force.
+pub fn columns_held(arity: &[u8; 64], rule: u8) -> u8
+    ensures { λ r. ⌜ r ≡ min (getD (now (arity .entry)) rule 0) 4 ⌝ }
+{
+    cap(byte_at(arity, rule as usize), 4)
+}
+
+// The rows of a rule.
+pub fn rows_held(lengths: &[u8; 64], rule: u8) -> u8
+    ensures { λ r. ⌜ r ≡ min (getD (now (lengths .entry)) rule 0) 64 ⌝ }
+{
+    cap(byte_at(lengths, rule as usize), 64)
+}
+
+// 1 for the byte of an open slot.
+fn open_bit(byte: u8) -> u32
+    ensures { λ r. ⌜ r ≡ digit (eqb byte 255) ⌝ }
+{
+    if byte == 255 { 1 } else { 0 }
+}
+
+// The mask of a call's open slots: from the highest slot down, each doubling makes room for the next slot's bit.
+pub fn open_mask(slots: &[u8], call: u8) -> u32
+    ensures { λ r. ⌜ r ≡ maskOf 32 (open? (now (slots .entry)) call) ⌝ }
+{
+    let base = 32 * (call as usize);
+    let mut mask: u32 = 0;
+    let mut s: usize = 32;
+    while 0 < s {
+        s -= 1;
+        mask = mask * 2 + open_bit(byte_at(slots, base + s));
+    }
+    mask
+}
+
+// Row w of the rule is alive and holds the slot in the column.
+fn supports(rows: &[u8], killers: &[u8], rule: usize, w: usize, column: usize, slot: u8) -> bool
+    requires { ⌜ Searchable (now rows) (now killers) rule (w + 1) column ⌝ }
+    ensures { λ r. ⌜ r ≡ supports? (stateOfParts [] [] [] [] (now (rows .entry)) (now (killers .entry)) []) rule column slot w ⌝ }
+{
+    killers[64 * rule + w] == 255 && rows[256 * rule + 4 * w + column] == slot
+}
+
+// The lowest of the rule's first m rows that is alive and holds the slot in the column; m where there is none.
+pub fn supporting_row(
+    rows: &[u8],
+    killers: &[u8],
+    rule: usize,
+    m: usize,
+    column: usize,
+    slot: u8,
+) -> usize
+    requires { ⌜ Searchable (now rows) (now killers) rule m column ⌝ }
+    ensures { λ r. ⌜ r ≡ first m (supports? (stateOfParts [] [] [] [] (now (rows .entry)) (now (killers .entry)) []) rule column slot) ⌝ }
+{
+    let mut w = 0;
+    while w < m {
+        if supports(rows, killers, rule, w, column, slot) {
+            return w;
+        }
+        w += 1;
+    }
+    m
+}
