@@ -1,0 +1,3 @@
+-- The theorems over them.
+pub mod Counts
+pub mod Made

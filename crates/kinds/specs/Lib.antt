@@ -1,0 +1,4 @@
+pub mod Made
+pub mod Search
+pub mod Fill
+pub mod Laws
