@@ -1,3 +1,6 @@
 -- The theorems over them.
 pub mod Counts
 pub mod Made
+pub mod Promised
+pub mod Fields
+pub mod Drafts

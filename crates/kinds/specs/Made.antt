@@ -3,19 +3,14 @@ use mathlib.Core.Path.{_≡_}
 use mathlib.Core.Bool.{Bool, not, _&&_, _||_, cond}
 use mathlib.Core.List.{List}
 use Prim.Native.Nat.{ℕ, _/_, _%_, _<_}
-use lib.ListN.{length, getD, replicate}
+use lib.ListN.{length, getD}
 use lib.Dec.{eqb, ltb}
-use Rattle.model.specs.declared.value.Heads.{Heads}
 use Rattle.model.specs.declared.value.Value.{Value}
 use Rattle.model.specs.declared.answer.Answer.{Answer}
 use Rattle.model.specs.declared.answer.Answer.the-variants as answer
 use Rattle.model.specs.Representation.{State, freshHeads, emptyDraft}
 use Rattle.model.specs.Promise.{BoardMade}
 use Rattle.model.specs.Laws.Fresh.{Filled}
-
--- the state of a value and three buffers
-abbrev pub stateOf : Value → List ℕ → List ℕ → List ℕ → State
-stateOf value rows killers slots = record { value = value; rows = rows; killers = killers; slots = slots }
 
 -- a count n over 32, or another than 0 where a 0 came before it
 abbrev pub badCount : ℕ → Bool → Bool

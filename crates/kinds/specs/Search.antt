@@ -1,33 +1,48 @@
--- The laws of a loop that asks whether some number below n passes a test, or whether each of them does: nothing so far, one number more, and an answer
--- that ends the search.
-use mathlib.Core.Path.{_≡_, refl}
+-- The laws of a loop that asks whether some number below n passes a test, or whether each of them does: nothing so far, one number more, an answer that
+-- ends the search, and the end.
+use mathlib.Core.Path.{_≡_, refl, sym}
 use mathlib.Core.Bool.{Bool, true, false}
 use Prim.Native.Nat.{ℕ, zero, suc, _+_, _<_, _≤_}
 use native.Mathlib.Numerals.{add-one}
 use native.Mathlib.Omega.{arith}
 use Rattle.tables.specs.Facts.{true-false}
 use Rattle.model.specs.Tests.{some?, every?}
-use Rattle.model.specs.Laws.Tests.{→some, every→, →T, T→, not→}
+use Rattle.model.specs.Laws.Tests.{some→, →some, every→, →T, T→, not→}
 
-module _ (f : ℕ → Bool) where
-  pub none-more : (n : ℕ) → some? n f ≡ false → f n ≡ false → some? (n + 1) f ≡ false
-  none-more n e h = rw (add-one, e) h
+-- no number below n passes f
+pub record NoneBelow (f : ℕ → Bool) (n : ℕ) : Type 0 where
+  pub none : some? n f ≡ false
 
-  pub some-found : (n i : ℕ) → i < n → f i ≡ true → some? n f ≡ true
-  some-found n i h e = T→ (some? n f) (→some n f i h (→T (f i) e))
+pub none-start : {f : ℕ → Bool} → NoneBelow f 0
+none-start = record { none = refl }
 
-  -- after the last turn, where the loop's test says that i is n
-  pub none-at : {i n : ℕ} → i ≤ n → n ≤ i → some? i f ≡ false → some? n f ≡ false
-  none-at {i} {n} h k e = let z : n ≡ i = omega arith in rw z e
+pub none-more : {f : ℕ → Bool} {n : ℕ} → NoneBelow f n → f n ≡ false → NoneBelow f (n + 1)
+none-more s e = record { none = rw (add-one, s .none) e }
 
-  pub every-more : (n : ℕ) → every? n f ≡ true → f n ≡ true → every? (n + 1) f ≡ true
-  every-more n e h = rw (add-one, e) h
+pub none-all : {f : ℕ → Bool} {n : ℕ} → ((i : ℕ) → i < n → f i ≡ false) → NoneBelow f n
+none-all {f} {n} all = record { none = not→ (some? n f) (λ t. let r = some→ n f t in true-false (T→ (f (r .0)) (r .2)) (all (r .0) (r .1))) }
 
-  pub every-fails : (n i : ℕ) → i < n → f i ≡ false → every? n f ≡ false
-  every-fails n i h e = not→ (every? n f) (λ t. true-false (T→ (f i) (every→ n f t i h)) e)
+pub some-found : {f : ℕ → Bool} {i : ℕ} → NoneBelow f i → (n : ℕ) → i < n → f i ≡ true → true ≡ some? n f
+some-found {f} {i} s n h e = sym (T→ (some? n f) (→some n f i h (→T (f i) e)))
 
-  pub every-at : {i n : ℕ} → i ≤ n → n ≤ i → every? i f ≡ true → every? n f ≡ true
-  every-at {i} {n} h k e = let z : n ≡ i = omega arith in rw z e
+pub none-found : {f : ℕ → Bool} {i : ℕ} → NoneBelow f i → (n : ℕ) → i ≤ n → n ≤ i → false ≡ some? n f
+none-found {f} {i} s n h k = let z : n ≡ i = omega arith in rw (z, s .none) refl
+
+-- each number below n passes f
+pub record EachBelow (f : ℕ → Bool) (n : ℕ) : Type 0 where
+  pub each : every? n f ≡ true
+
+pub each-start : {f : ℕ → Bool} → EachBelow f 0
+each-start = record { each = refl }
+
+pub each-more : {f : ℕ → Bool} {n : ℕ} → EachBelow f n → f n ≡ true → EachBelow f (n + 1)
+each-more s e = record { each = rw (add-one, s .each) e }
+
+pub other-found : {f : ℕ → Bool} {i : ℕ} → EachBelow f i → (n : ℕ) → i < n → f i ≡ false → false ≡ every? n f
+other-found {f} {i} s n h e = sym (not→ (every? n f) (λ t. true-false (T→ (f i) (every→ n f t i h)) e))
+
+pub each-found : {f : ℕ → Bool} {i : ℕ} → EachBelow f i → (n : ℕ) → i ≤ n → n ≤ i → true ≡ every? n f
+each-found {f} {i} s n h k = let z : n ≡ i = omega arith in rw (z, s .each) refl
 
 -- tests that agree below n find alike
 pub some-same : (n : ℕ) (f g : ℕ → Bool) → ((i : ℕ) → i < n → f i ≡ g i) → some? n f ≡ some? n g

@@ -1,7 +1,5 @@
 // Kind 1: a new board. Every byte of the three buffers is written, whatever they held.
-use model::answer::Answer;
 use model::answer::Outcome;
-use model::answer::Report;
 use model::value::Draft;
 use model::value::Heads;
 use model::value::Value;
@@ -10,7 +8,8 @@ ghost use Prim.Native.Nat.{_<_};
 ghost use lib.ListN.{length};
 ghost use Rattle.model.specs.Ledger.{badCounts};
 ghost use Rattle.model.specs.Laws.Fresh.{Filled};
-ghost use Rattle.kinds.specs.Made.{badCount, stateOf, slotByte, SlotsMade, Cleared, bareValue, MakesBoard};
+ghost use Rattle.kinds.specs.Outcomes.{stateOf};
+ghost use Rattle.kinds.specs.Made.{badCount, slotByte, SlotsMade, Cleared, bareValue, MakesBoard};
 
 // Whether a count n is over 32, or is another than 0 where a 0 came before it.
 fn bad_count(n: u8, ended: bool) -> bool
@@ -108,19 +107,9 @@ pub fn make_board(
     ensures { λ r. ⌜ MakesBoard counts (stateOf value (now (rows .entry)) (now (killers .entry)) (now (slots .entry))) (r .answer) (stateOf (r .value) (now (rows .exit)) (now (killers .exit)) (now (slots .exit))) ⌝ }
 {
     if bad_counts(&counts) {
-        return Outcome {
-            answer: Answer::Refused(5),
-            value,
-        };
+        return crate::outcome::refused(5, value);
     }
     clear(rows, killers, slots, &counts);
-    let silent = Report {
-        struck: 0,
-        reopened: 0,
-        touched: 0,
-    };
-    Outcome {
-        answer: Answer::Accepted(silent),
-        value: bare_value(counts),
-    }
+    let new = bare_value(counts);
+    crate::outcome::accepted(new)
 }

@@ -9,12 +9,12 @@ use native.Mathlib.Numerals.{add-one}
 use native.Mathlib.Omega.{arith}
 use lib.ListN.{length, getD, List·getD-eq-default}
 use lib.Dec.{T, eqb, ltb}
-use borrow.Author.Tests.{eqb-true, eq-eqb}
+use borrow.Author.Tests.{eqb-true}
 use Rattle.tables.specs.Facts.{true-false, lt-or-le}
 use Rattle.model.specs.Tests.{some?}
 use Rattle.model.specs.Ledger.{badCounts, upToZero}
-use Rattle.model.specs.Laws.Tests.{or-false, or→, →or, and→, none-passes, →T, T→}
-use Rattle.kinds.specs.Search.{none-more, some-found}
+use Rattle.model.specs.Laws.Tests.{or-false, or→, →or, and→, →and, →some, none-passes, →T, T→, →eqb}
+use Rattle.kinds.specs.Search.{NoneBelow, none-start, none-more}
 use Rattle.kinds.specs.Made.{badCount}
 
 -- where no 0 was passed, or this is one: none is bad here, and a 0 was passed up to here exactly where this is one
@@ -45,20 +45,20 @@ module _ (ns : List ℕ) where
 
   -- what the search has found of the first j counts: none is bad, and `ended` says whether a 0 is among them
   pub record GoodSoFar (j : ℕ) (ended : Bool) : Type 0 where
-    pub none-over : some? j over ≡ false
-    pub none-after : some? j after ≡ false
+    pub none-over : NoneBelow over j
+    pub none-after : NoneBelow after j
     pub ended-is : some? j zero? ≡ ended
 
   pub good-none : GoodSoFar 0 false
-  good-none = record { none-over = refl; none-after = refl; ended-is = refl }
+  good-none = record { none-over = none-start; none-after = none-start; ended-is = refl }
 
   pub good-more : (j : ℕ) (ended : Bool) → GoodSoFar j ended → badCount (getD ns j 0) ended ≡ false → GoodSoFar (j + 1) (zero? j)
   good-more j ended g e =
       let o = or-false (over j) (ended && not (zero? j)) e in
       let s = zero-stays ended (zero? j) (o .1) in
       record {
-        none-over = none-more over j (g .none-over) (o .0);
-        none-after = none-more after j (g .none-after) (rw (g .ended-is) (s .0));
+        none-over = none-more (g .none-over) (o .0);
+        none-after = none-more (g .none-after) (rw (g .ended-is) (s .0));
         ended-is = rw (add-one, g .ended-is) (s .1);
       }
 
@@ -67,21 +67,21 @@ module _ (ns : List ℕ) where
       T→ (badCounts ns)
       (→or (zero? 0 || some? (length ns) over) (some? (length ns) after)
       (⊎-elim
-      (λ t. inl (→or (zero? 0) (some? (length ns) over) (inr (→T _ (some-found over (length ns) j h (T→ (over j) t))))))
+      (λ t. inl (→or (zero? 0) (some? (length ns) over) (inr (→some (length ns) over j h t))))
       (λ t.
       let b = and→ ended (not (zero? j)) t in
-      inr (→T _ (some-found after (length ns) j h (rw (T→ (not (zero? j)) (b .1)) (g .ended-is ∙ T→ ended (b .0))))))
+      inr (→some (length ns) after j h (→and (not (zero? j)) (some? j zero?) (b .1) (rw (g .ended-is) (b .0)))))
       (or→ (over j) (ended && not (zero? j)) (→T _ e))))
 
   pub good-all : (j : ℕ) (ended : Bool) → GoodSoFar j ended → j ≡ length ns → badCounts ns ≡ zero? 0
-  good-all j ended g e = rw (← e, g .none-over, g .none-after) (or-none (zero? 0))
+  good-all j ended g e = rw (← e, g .none-over .none, g .none-after .none) (or-none (zero? 0))
 
   -- counts that are taken are 0 from the first 0 on
   pub zeros-after : badCounts ns ≡ false → (i j : ℕ) → i < j → getD ns i 0 ≡ 0 → getD ns j 0 ≡ 0
   zeros-after e i j lt z = ⊎-elim inside (λ le. List·getD-eq-default ns 0 le) (lt-or-le j (length ns))
     where
       found : some? j zero? ≡ true
-      found = some-found zero? j i lt (eq-eqb (getD ns i 0) 0 z)
+      found = T→ (some? j zero?) (→some j zero? i lt (→eqb (getD ns i 0) 0 z))
 
       inside : j < length ns → getD ns j 0 ≡ 0
       inside h =

@@ -1,5 +1,5 @@
 -- THE BOARD THAT KIND 1 MAKES: its value and bytes are those of a board without rules. Assumes nothing.
-use mathlib.Core.Path.{_≡_, refl, sym, _∙_}
+use mathlib.Core.Path.{_≡_, refl, _∙_}
 use mathlib.Core.Bool.{Bool, true, false, cond}
 use mathlib.Core.List.{List}
 use Prim.Native.Nat.{ℕ, _+_, _*_, _/_, _%_, _<_, _≤_}
@@ -7,7 +7,6 @@ use native.Mathlib.Omega.{arith}
 use lib.ListN.{length, getD}
 use lib.Dec.{ltb}
 use borrow.Author.Tests.{lt-ltb, le-ltb}
-use Rattle.model.specs.declared.answer.Report.{Report}
 use Rattle.model.specs.declared.answer.Answer.the-variants as answer
 use Rattle.model.specs.declared.command.Command.the-variants as kind
 use Rattle.model.specs.Board.{OnBoard, Shape}
@@ -17,7 +16,8 @@ use Rattle.model.specs.Representation.{State, Represents}
 use Rattle.model.specs.Laws.Shapes.{effect-shape, shape-fresh}
 use Rattle.model.specs.Laws.Change.{on-range}
 use Rattle.model.specs.Laws.Fresh.{filled, bare-headed, bare-stored, fresh-represents}
-use Rattle.kinds.specs.Made.{stateOf, slotByte, SlotsMade, Cleared, bareValue, MakesBoard}
+use Rattle.kinds.specs.Outcomes.{stateOf, silent}
+use Rattle.kinds.specs.Made.{slotByte, SlotsMade, Cleared, bareValue, MakesBoard}
 use Rattle.kinds.specs.Laws.Counts.{counts-kept}
 
 slot-byte-at : (ns : List ℕ) (c s : ℕ) → s < 32 → slotByte ns (32 * c + s) ≡ cond (ltb s (getD ns c 0)) 255 254
@@ -54,12 +54,11 @@ module _ (ns : List ℕ) (size : length ns ≡ 32) (good : badCounts ns ≡ fals
           drafted = fresh-represents .drafted;
         }
 
-    pub makes-new : (before : State) (r : Report) → r .struck ≡ 0 → r .reopened ≡ 0 → r .touched ≡ 0
-        → MakesBoard ns before (answer.Accepted r) (stateOf (bareValue ns) rows killers slots)
-    makes-new before r s o t =
+    pub makes-new : (before : State) → MakesBoard ns before (answer.Accepted silent) (stateOf (bareValue ns) rows killers slots)
+    makes-new before =
         record {
           refused = λ n e. let z : _≡_ {A = ℕ} 0 1 = cc in absurd (omega arith);
-          made = record { number = rw good refl; values = rw (good, s, o, t) refl; represents = λ e. made-represents };
+          made = record { number = rw good refl; values = rw good refl; represents = λ e. made-represents };
         }
 
 pub makes-nothing : (ns : List ℕ) (before : State) → badCounts ns ≡ true → MakesBoard ns before (answer.Refused 5) before

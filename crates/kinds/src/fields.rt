@@ -1,0 +1,85 @@
+// The checks of fields that kinds 2 and 3 make: each looks at one condition of document 01's table, over the bytes, whatever they hold.
+ghost use mathlib.Core.Path.{_≡_};
+ghost use Prim.Native.Nat.{_≤_, _<_};
+ghost use lib.ListN.{length};
+ghost use Rattle.model.specs.Ledger.{badSpare};
+ghost use Rattle.kinds.specs.Fields.{offBoard, callOffBoard, callBefore, callTwice, badArity};
+
+// Whether call x is not on the board.
+fn off_board(counts: &[u8; 32], x: u8) -> bool
+    ensures { λ r. ⌜ r ≡ offBoard (now (counts .entry)) x ⌝ }
+{
+    32 <= x || counts[x as usize] == 0
+}
+
+// Refusal 9: one of n calls is not on the board.
+pub fn call_off_board(counts: &[u8; 32], calls: &[u8; 4], n: usize) -> bool
+    requires { ⌜ length (now calls) ≡ 4 ⌝ }
+    requires { ⌜ n ≤ 4 ⌝ }
+    ensures { λ r. ⌜ r ≡ callOffBoard (now (counts .entry)) (now (calls .entry)) n ⌝ }
+{
+    let mut k = 0;
+    while k < n {
+        if off_board(counts, calls[k]) {
+            return true;
+        }
+        k += 1;
+    }
+    false
+}
+
+// Whether call k is one of those before it.
+fn call_before(calls: &[u8; 4], k: usize) -> bool
+    requires { ⌜ length (now calls) ≡ 4 ⌝ }
+    requires { ⌜ k < 4 ⌝ }
+    ensures { λ r. ⌜ r ≡ callBefore (now (calls .entry)) k ⌝ }
+{
+    let x = calls[k];
+    let mut j = 0;
+    while j < k {
+        if calls[j] == x {
+            return true;
+        }
+        j += 1;
+    }
+    false
+}
+
+// Refusal 10: one of n calls is there twice.
+pub fn call_twice(calls: &[u8; 4], n: usize) -> bool
+    requires { ⌜ length (now calls) ≡ 4 ⌝ }
+    requires { ⌜ n ≤ 4 ⌝ }
+    ensures { λ r. ⌜ r ≡ callTwice (now (calls .entry)) n ⌝ }
+{
+    let mut k = 0;
+    while k < n {
+        if call_before(calls, k) {
+            return true;
+        }
+        k += 1;
+    }
+    false
+}
+
+// Refusal 8: an arity that is not 1 to 4.
+pub fn bad_arity(n: usize) -> bool
+    ensures { λ r. ⌜ r ≡ badArity n ⌝ }
+{
+    n < 1 || 4 < n
+}
+
+// Refusal 11: one of four fields past the first n is not 255.
+pub fn bad_spare(fields: &[u8; 4], n: usize) -> bool
+    requires { ⌜ length (now fields) ≡ 4 ⌝ }
+    requires { ⌜ n ≤ 4 ⌝ }
+    ensures { λ r. ⌜ r ≡ badSpare n (now (fields .entry)) ⌝ }
+{
+    let mut k = n;
+    while k < 4 {
+        if fields[k] != 255 {
+            return true;
+        }
+        k += 1;
+    }
+    false
+}
