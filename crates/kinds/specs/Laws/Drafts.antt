@@ -18,11 +18,12 @@ use Rattle.model.specs.Commands.{callsOf}
 use Rattle.model.specs.Ledger.{Ledger, LedgerShape, firstOf, badSpare, kindConditions, effect}
 use Rattle.model.specs.Representation.{Drafted, Represents, emptyDraft}
 use Rattle.model.specs.Laws.Tests.{none-passes}
+use Rattle.model.specs.Laws.Shapes.{Passed, passed}
 use Rattle.model.specs.Laws.Fresh.{filled}
 use Rattle.kinds.specs.Outcomes.{stateOf, refusedWith, acceptedWith, DraftPromise}
 use Rattle.kinds.specs.Fields.{headChecks}
 use Rattle.kinds.specs.Drafts.{draftOf, StartsDraft}
-use Rattle.kinds.specs.Laws.Fields.{any-default, head-checks-same}
+use Rattle.kinds.specs.Laws.Fields.{any-default, arity-most, head-checks-same}
 use Rattle.kinds.specs.Laws.Promised.{promise-refused, promise-accepted}
 
 -- four fields of which those past the first a are 255: the list of the first a reads the same
@@ -51,3 +52,20 @@ head-drafted h most good =
       length-is = refl;
       rows = λ w k lw lk. filled 256 255 .all (4 * w + k) (omega arith);
     }
+
+module _ (value : Value) (h : Head) where
+  pub head-refused : (n : ℕ) → n ≡ firstOf (headChecks (value .heads .counts) h) → (n ≡ 0 → ⊥) → StartsDraft value h (refusedWith n value)
+  head-refused n e ne =
+      promise-refused value (kind.Head h) n ne
+      (λ rows killers slots ns L shape is. e ∙ ap firstOf (head-checks-same L shape (value .heads) (is .stored .headed) h ns))
+
+  pub head-accepted : 0 ≡ firstOf (headChecks (value .heads .counts) h) → StartsDraft value h (acceptedWith (record { heads = value .heads; draft = draftOf h }))
+  head-accepted e =
+      promise-accepted value (kind.Head h) (record { heads = value .heads; draft = draftOf h }) (λ x y. record { struck = refl; reopened = refl; touched = refl })
+      (λ rows killers slots ns L shape is. (
+        e ∙ ap firstOf (head-checks-same L shape (value .heads) (is .stored .headed) h ns),
+        record { stored = is .stored; drafted = head-drafted h (arity-most (h .arity) (good .1 .1 .0)) (good .1 .1 .1 .1 .1 .0) },
+      ))
+    where
+      good : Passed (headChecks (value .heads .counts) h)
+      good = passed (headChecks (value .heads .counts) h) tt (sym e)

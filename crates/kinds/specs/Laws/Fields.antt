@@ -7,7 +7,7 @@ use Prim.Native.Nat.{ℕ, zero, suc, _<_, _≤_}
 use native.Mathlib.Omega.{arith}
 use lib.ListN.{length, getD, List·getD-eq-default}
 use lib.Dec.{eqb, ltb, leb}
-use borrow.Author.Tests.{eq-eqb, ne-eqb, le-leb, lt-leb}
+use borrow.Author.Tests.{eq-eqb, ne-eqb, le-leb, lt-leb, ltb-false}
 use Rattle.tables.specs.Facts.{lt-or-le}
 use Rattle.model.specs.declared.value.Heads.{Heads}
 use Rattle.model.specs.declared.command.Head.{Head}
@@ -17,7 +17,8 @@ use Rattle.model.specs.Tests.{some?}
 use Rattle.model.specs.Commands.{callsOf}
 use Rattle.model.specs.Ledger.{Ledger, LedgerShape, kindConditions}
 use Rattle.model.specs.Representation.{Headed}
-use Rattle.kinds.specs.Fields.{noCalls, offBoard, headChecks}
+use Rattle.model.specs.Laws.Tests.{or-false}
+use Rattle.kinds.specs.Fields.{noCalls, offBoard, badArity, headChecks}
 use Rattle.kinds.specs.Search.{some-same}
 
 -- within a list the default does not count
@@ -25,6 +26,9 @@ pub any-default : (d e : ℕ) (xs : List ℕ) (k : ℕ) → k < length xs → ge
 any-default d e [] k h = absurd (omega arith)
 any-default d e (x ∷ xs) zero h = refl
 any-default d e (x ∷ xs) (suc k) h = any-default d e xs k (omega arith)
+
+pub arity-most : (n : ℕ) → badArity n ≡ false → n ≤ 4
+arity-most n e = ltb-false 4 n (or-false (ltb n 1) (ltb 4 n) e .1)
 
 module _ (B : Board) (shape : Shape B) (heads : Heads) (headed : Headed B heads) where
   -- a call is on the board exactly where it has slots

@@ -15,8 +15,8 @@ module _ (value : Value) (c : Command) where
   pub promise-refused : (n : ℕ) → (n ≡ 0 → ⊥)
       → ((rows killers slots ns : List ℕ) (L : Ledger) → LedgerShape L → Represents L (stateOf value rows killers slots) → n ≡ firstOf (kindConditions L c ns))
       → DraftPromise value c (refusedWith n value)
-  promise-refused zero some check = absurd (some refl)
-  promise-refused (suc n) some check = λ rows killers slots ns.
+  promise-refused zero ne check = absurd (ne refl)
+  promise-refused (suc n) ne check = λ rows killers slots ns.
       record {
         refused = λ m e. refl;
         obeyed = λ L shape is.

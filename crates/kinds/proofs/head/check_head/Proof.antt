@@ -1,64 +1,106 @@
+-- The code's tests are the table's conditions over the bytes, in its order: each return has the tests before it failed.
+use mathlib.Core.Path.{sym, _∙_}
 use borrow.Author.Needs.{needs}
+use borrow.Author.Tests.{eq-eqb, ne-eqb, lt-ltb, le-ltb}
+use Rattle.kinds.specs.Fields.{headChecks}
+use Rattle.kinds.specs.Laws.Order.{here, later, none, first-is}
+use Rattle.kinds.specs.Laws.Fields.{arity-most}
 use Rattle.kinds.proofs.head.check_head.Statement.{statement}
 use Rattle.kinds.proofs.head.check_head.Tie as tie
-use Rattle.kinds.proofs.head.check_head.Reads as reads
-use Rattle.kinds.proofs.head.check_head.Lts as lts
-use Rattle.kinds.proofs.fields.bad_arity.Reads as bad-arity-reads
-use Rattle.kinds.proofs.fields.bad_spare.Reads as bad-spare-reads
-use Rattle.kinds.proofs.fields.call_off_board.Reads as call-off-board-reads
-use Rattle.kinds.proofs.fields.call_twice.Reads as call-twice-reads
 
--- src/head.rt:15:8
 element-copy-out-if1 : tie.Need-element-copy-out-if1
 element-copy-out-if1 c = search needs
 
--- src/head.rt:16:9
 returns : tie.Need-returns
-returns c = ?
+returns c =
+    let start = c .before .before in
+    first-is (headChecks (start .args .counts .now) (start .args .head)) (here (eq-eqb _ _ (c .if1 .taken)))
 
--- src/head.rt:19:9
 returns-2 : tie.Need-returns-2
-returns-2 c = ?
+returns-2 c =
+    let board = c .before .before in
+    first-is (headChecks (board .before .before .args .counts .now) (board .before .before .args .head))
+    (later (ne-eqb _ _ (board .if1 .left)) (here (lt-ltb _ _ (c .if2 .taken))))
 
--- src/head.rt:21:13
 cast-n : tie.Need-cast-n
 cast-n c = search needs
 
--- src/head.rt:22:8
 bad-arity-requires : tie.Need-bad-arity-requires
 bad-arity-requires c κs = search needs
 
--- src/head.rt:23:9
 returns-3 : tie.Need-returns-3
-returns-3 c = ?
+returns-3 c =
+    let number = c .before .before .before in
+    let board = number .before .before in
+    first-is (headChecks (board .before .before .args .counts .now) (board .before .before .args .head))
+    (later (ne-eqb _ _ (board .if1 .left)) (later (le-ltb _ _ (number .if2 .left)) (here (sym (c .before .bad-arity .ensures) ∙ c .if3 .taken))))
 
--- src/head.rt:26:8
 call-off-board-requires : tie.Need-call-off-board-requires
-call-off-board-requires c κs = ?
+call-off-board-requires c κs = let arity = c .before in (search needs, arity-most _ (sym (arity .before .bad-arity .ensures) ∙ arity .if3 .left))
 
--- src/head.rt:27:9
 returns-4 : tie.Need-returns-4
-returns-4 c = ?
+returns-4 c =
+    let arity = c .before .before .before in
+    let number = arity .before .before .before in
+    let board = number .before .before in
+    first-is (headChecks (board .before .before .args .counts .now) (board .before .before .args .head))
+    (later (ne-eqb _ _ (board .if1 .left))
+    (later (le-ltb _ _ (number .if2 .left))
+    (later (sym (arity .before .bad-arity .ensures) ∙ arity .if3 .left)
+    (here (sym (c .before .call-off-board .ensures) ∙ c .if4 .taken)))))
 
--- src/head.rt:29:8
 call-twice-requires : tie.Need-call-twice-requires
-call-twice-requires c κs = ?
+call-twice-requires c κs =
+    let arity = c .before .before .before .before in
+    (search needs, arity-most _ (sym (arity .before .bad-arity .ensures) ∙ arity .if3 .left))
 
--- src/head.rt:30:9
 returns-5 : tie.Need-returns-5
-returns-5 c = ?
+returns-5 c =
+    let on = c .before .before .before in
+    let arity = on .before .before .before in
+    let number = arity .before .before .before in
+    let board = number .before .before in
+    first-is (headChecks (board .before .before .args .counts .now) (board .before .before .args .head))
+    (later (ne-eqb _ _ (board .if1 .left))
+    (later (le-ltb _ _ (number .if2 .left))
+    (later (sym (arity .before .bad-arity .ensures) ∙ arity .if3 .left)
+    (later (sym (on .before .call-off-board .ensures) ∙ on .if4 .left)
+    (here (sym (c .before .call-twice .ensures) ∙ c .if5 .taken))))))
 
--- src/head.rt:32:8
 bad-spare-requires : tie.Need-bad-spare-requires
-bad-spare-requires c κs = ?
+bad-spare-requires c κs =
+    let arity = c .before .before .before .before .before .before .before in
+    (search needs, arity-most _ (sym (arity .before .bad-arity .ensures) ∙ arity .if3 .left))
 
--- src/head.rt:33:9
 returns-6 : tie.Need-returns-6
-returns-6 c = ?
+returns-6 c =
+    let once = c .before .before .before in
+    let on = once .before .before .before in
+    let arity = on .before .before .before in
+    let number = arity .before .before .before in
+    let board = number .before .before in
+    first-is (headChecks (board .before .before .args .counts .now) (board .before .before .args .head))
+    (later (ne-eqb _ _ (board .if1 .left))
+    (later (le-ltb _ _ (number .if2 .left))
+    (later (sym (arity .before .bad-arity .ensures) ∙ arity .if3 .left)
+    (later (sym (on .before .call-off-board .ensures) ∙ on .if4 .left)
+    (later (sym (once .before .call-twice .ensures) ∙ once .if5 .left)
+    (here (sym (c .before .bad-spare .ensures) ∙ c .if6 .taken)))))))
 
--- src/head.rt:12:1
 returns-7 : tie.Need-returns-7
-returns-7 c = ?
+returns-7 c =
+    let once = c .before .before .before in
+    let on = once .before .before .before in
+    let arity = on .before .before .before in
+    let number = arity .before .before .before in
+    let board = number .before .before in
+    first-is (headChecks (board .before .before .args .counts .now) (board .before .before .args .head))
+    (later (ne-eqb _ _ (board .if1 .left))
+    (later (le-ltb _ _ (number .if2 .left))
+    (later (sym (arity .before .bad-arity .ensures) ∙ arity .if3 .left)
+    (later (sym (on .before .call-off-board .ensures) ∙ on .if4 .left)
+    (later (sym (once .before .call-twice .ensures) ∙ once .if5 .left)
+    (later (sym (c .before .bad-spare .ensures) ∙ c .if6 .left) none))))))
 
 pub check-head-spec : {M : Type 1} → statement M
 check-head-spec =
