@@ -1,6 +1,6 @@
 -- The laws of a loop that asks whether some number below n passes a test, or whether each of them does: nothing so far, one number more, an answer that
 -- ends the search, and the end.
-use mathlib.Core.Path.{_≡_, refl, sym}
+use mathlib.Core.Path.{_≡_, refl, sym, _∙_}
 use mathlib.Core.Bool.{Bool, true, false}
 use Prim.Native.Nat.{ℕ, zero, suc, _+_, _<_, _≤_}
 use native.Mathlib.Numerals.{add-one}
@@ -19,11 +19,18 @@ none-start = record { none = refl }
 pub none-more : {f : ℕ → Bool} {n : ℕ} → NoneBelow f n → f n ≡ false → NoneBelow f (n + 1)
 none-more s e = record { none = rw (add-one, s .none) e }
 
+-- the same where a answers what the test says
+pub none-more-by : {f : ℕ → Bool} {n : ℕ} {a : Bool} → NoneBelow f n → a ≡ f n → a ≡ false → NoneBelow f (n + 1)
+none-more-by s is e = none-more s (sym is ∙ e)
+
 pub none-all : {f : ℕ → Bool} {n : ℕ} → ((i : ℕ) → i < n → f i ≡ false) → NoneBelow f n
 none-all {f} {n} all = record { none = not→ (some? n f) (λ t. let r = some→ n f t in true-false (T→ (f (r .0)) (r .2)) (all (r .0) (r .1))) }
 
 pub some-found : {f : ℕ → Bool} {i : ℕ} → NoneBelow f i → (n : ℕ) → i < n → f i ≡ true → true ≡ some? n f
 some-found {f} {i} s n h e = sym (T→ (some? n f) (→some n f i h (→T (f i) e)))
+
+pub some-found-by : {f : ℕ → Bool} {i : ℕ} {a : Bool} → NoneBelow f i → (n : ℕ) → i < n → a ≡ f i → a ≡ true → true ≡ some? n f
+some-found-by s n h is e = some-found s n h (sym is ∙ e)
 
 pub none-found : {f : ℕ → Bool} {i : ℕ} → NoneBelow f i → (n : ℕ) → i ≤ n → n ≤ i → false ≡ some? n f
 none-found {f} {i} s n h k = let z : n ≡ i = omega arith in rw (z, s .none) refl

@@ -3,7 +3,7 @@ ghost use mathlib.Core.Path.{_≡_};
 ghost use Prim.Native.Nat.{_≤_, _<_};
 ghost use lib.ListN.{length};
 ghost use Rattle.model.specs.Ledger.{badSpare};
-ghost use Rattle.kinds.specs.Fields.{offBoard, callOffBoard, callBefore, callTwice, badArity};
+ghost use Rattle.kinds.specs.Fields.{offBoard, callOffBoard, callBefore, callTwice, badArity, columnsOf, offCall, slotOffCall, sameRow, rowInDraft};
 
 // Whether call x is not on the board.
 fn off_board(counts: &[u8; 32], x: u8) -> bool
@@ -80,6 +80,72 @@ pub fn bad_spare(fields: &[u8; 4], n: usize) -> bool
             return true;
         }
         k += 1;
+    }
+    false
+}
+
+// The columns that are looked at: as many as the arity says, but at most four.
+pub fn columns(arity: u8) -> usize
+    ensures { λ r. ⌜ r ≡ columnsOf arity ⌝ }
+{
+    if arity < 4 { arity as usize } else { 4 }
+}
+
+// Whether the slot in column k is not on the column's call.
+fn off_call(counts: &[u8; 32], calls: &[u8; 4], slots: &[u8; 4], k: usize) -> bool
+    requires { ⌜ length (now slots) ≡ 4 ⌝ }
+    requires { ⌜ k < 4 ⌝ }
+    ensures { λ r. ⌜ r ≡ offCall (now (counts .entry)) (now (calls .entry)) (now (slots .entry)) k ⌝ }
+{
+    counts[(calls[k] % 32) as usize] <= slots[k]
+}
+
+// Refusal 14: the slot in one of n columns is not on the column's call.
+pub fn slot_off_call(counts: &[u8; 32], calls: &[u8; 4], slots: &[u8; 4], n: usize) -> bool
+    requires { ⌜ length (now slots) ≡ 4 ⌝ }
+    requires { ⌜ n ≤ 4 ⌝ }
+    ensures { λ r. ⌜ r ≡ slotOffCall (now (counts .entry)) (now (calls .entry)) (now (slots .entry)) n ⌝ }
+{
+    let mut k = 0;
+    while k < n {
+        if off_call(counts, calls, slots, k) {
+            return true;
+        }
+        k += 1;
+    }
+    false
+}
+
+// Whether row v has these slots in n columns.
+fn same_row(rows: &[u8; 256], slots: &[u8; 4], n: usize, v: usize) -> bool
+    requires { ⌜ length (now slots) ≡ 4 ⌝ }
+    requires { ⌜ n ≤ 4 ⌝ }
+    requires { ⌜ v < 64 ⌝ }
+    ensures { λ r. ⌜ r ≡ sameRow (now (rows .entry)) (now (slots .entry)) n v ⌝ }
+{
+    let mut k = 0;
+    while k < n {
+        if rows[4 * v + k] != slots[k] {
+            return false;
+        }
+        k += 1;
+    }
+    true
+}
+
+// Refusal 15: one of m rows has these slots in n columns.
+pub fn row_in_draft(rows: &[u8; 256], slots: &[u8; 4], n: usize, m: usize) -> bool
+    requires { ⌜ length (now slots) ≡ 4 ⌝ }
+    requires { ⌜ n ≤ 4 ⌝ }
+    requires { ⌜ m ≤ 64 ⌝ }
+    ensures { λ r. ⌜ r ≡ rowInDraft (now (rows .entry)) (now (slots .entry)) n m ⌝ }
+{
+    let mut v = 0;
+    while v < m {
+        if same_row(rows, slots, n, v) {
+            return true;
+        }
+        v += 1;
     }
     false
 }

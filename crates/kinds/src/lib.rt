@@ -5,3 +5,4 @@ pub mod outcome; // the two outcomes of a command that reports nothing
 pub mod board; // kind 1
 pub mod fields; // the checks that kinds 2 and 3 share
 pub mod head; // kind 2
+pub mod row; // kind 3

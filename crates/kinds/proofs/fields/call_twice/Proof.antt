@@ -1,9 +1,8 @@
 -- The loop has found no call that is there before among those that it passed.
-use mathlib.Core.Path.{sym, _∙_}
 use Prim.Native.Nat.{_≤_, _-_}
 use native.Mathlib.Omega.{arith}
 use Rattle.kinds.specs.Fields.{callBefore}
-use Rattle.kinds.specs.Search.{NoneBelow, none-start, none-more, none-found, some-found}
+use Rattle.kinds.specs.Search.{NoneBelow, none-start, none-more-by, none-found, some-found-by}
 use borrow.Author.Needs.{needs}
 use Rattle.kinds.proofs.fields.call_twice.Statement.{statement}
 use Rattle.kinds.proofs.fields.call_twice.Tie as tie
@@ -23,7 +22,7 @@ call-before-requires c κs = search needs
 returns : tie.Need-returns Inv-loop μ-loop
 returns c =
     let l = c .before .before .before .loop in
-    some-found (l .inv .1) (c .before .before .before .before .args .n) (omega arith) (sym (c .before .call-before .ensures) ∙ c .if1 .taken)
+    some-found-by (l .inv .1) (c .before .before .before .before .args .n) (omega arith) (c .before .call-before .ensures) (c .if1 .taken)
 
 add-k : tie.Need-add-k Inv-loop μ-loop
 add-k c = search needs
@@ -34,7 +33,7 @@ loop-less c = search needs
 loop-again : tie.Need-loop-again Inv-loop μ-loop
 loop-again c =
     let l = c .before .before .before .loop in
-    (omega arith, none-more (l .inv .1) (sym (c .before .call-before .ensures) ∙ c .if1 .left))
+    (omega arith, none-more-by (l .inv .1) (c .before .call-before .ensures) (c .if1 .left))
 
 returns-2 : tie.Need-returns-2 Inv-loop μ-loop
 returns-2 c = let l = c .before .loop in none-found (l .inv .1) (c .before .before .args .n) (l .inv .0) (c .loop-test .left)
