@@ -63,10 +63,10 @@ fn fill_slots(slots: &mut [u8], counts: &[u8; 32])
     requires { ⌜ length (now slots) ≡ 1024 ⌝ }
     ensures { λ _. ⌜ SlotsMade (now (counts .entry)) (now (slots .exit)) ⌝ }
 {
-    let mut i = 0;
-    while i < 1024 {
-        slots[i] = slot_byte(counts, i);
-        i += 1;
+    let mut place = 0;
+    while place < 1024 {
+        slots[place] = slot_byte(counts, place);
+        place += 1;
     }
 }
 

@@ -123,12 +123,12 @@ fn same_row(rows: &[u8; 256], slots: &[u8; 4], n: usize, v: usize) -> bool
     requires { ⌜ v < 64 ⌝ }
     ensures { λ r. ⌜ r ≡ sameRow (now (rows .entry)) (now (slots .entry)) n v ⌝ }
 {
-    let mut k = 0;
-    while k < n {
-        if rows[4 * v + k] != slots[k] {
+    let mut column = 0;
+    while column < n {
+        if rows[4 * v + column] != slots[column] {
             return false;
         }
-        k += 1;
+        column += 1;
     }
     true
 }

@@ -10,10 +10,10 @@ use Rattle.kinds.proofs.board.fill_slots.Statement.{statement}
 use Rattle.kinds.proofs.board.fill_slots.Tie as tie
 
 abbrev Inv-loop : tie.InvT-loop
-Inv-loop slots₀ counts i₀ slots i = (i ≤ 1024) × (length slots₀ ≡ 1024) × Written (slotByte counts) i slots₀ slots
+Inv-loop slots₀ counts place₀ slots place = (place ≤ 1024) × (length slots₀ ≡ 1024) × Written (slotByte counts) place slots₀ slots
 
 abbrev μ-loop : tie.MeasureT-loop
-μ-loop slots₀ counts i₀ slots i = 1024 - i
+μ-loop slots₀ counts place₀ slots place = 1024 - place
 
 loop-holds : tie.Need-loop-holds Inv-loop μ-loop
 loop-holds c = (omega arith, search needs, written-none _ _)
@@ -24,8 +24,8 @@ slot-byte-requires c κs = search needs
 slice-write-slots : tie.Need-slice-write-slots Inv-loop μ-loop
 slice-write-slots c = search needs
 
-add-i : tie.Need-add-i Inv-loop μ-loop
-add-i c = search needs
+add-place : tie.Need-add-place Inv-loop μ-loop
+add-place c = search needs
 
 loop-less : tie.Need-loop-less Inv-loop μ-loop
 loop-less c = search needs
@@ -33,7 +33,7 @@ loop-less c = search needs
 loop-again : tie.Need-loop-again Inv-loop μ-loop
 loop-again c =
     let l = c .before .before .loop in
-    (omega arith, l .inv .1, written-more _ (l .i) _ _ _ (l .inv .2) (search needs) (c .slot-byte .ensures))
+    (omega arith, l .inv .1, written-more _ (l .place) _ _ _ (l .inv .2) (search needs) (c .slot-byte .ensures))
 
 same-length : tie.Need-same-length Inv-loop μ-loop
 same-length c = search needs
@@ -52,7 +52,7 @@ fill-slots-spec =
     loop-holds
     slot-byte-requires
     slice-write-slots
-    add-i
+    add-place
     loop-less
     loop-again
     same-length

@@ -11,10 +11,10 @@ use Rattle.kinds.proofs.fields.same_row.Statement.{statement}
 use Rattle.kinds.proofs.fields.same_row.Tie as tie
 
 abbrev Inv-loop : tie.InvT-loop
-Inv-loop rows slots n v k₀ k = (k ≤ n) × EachBelow (λ j. eqb (getD rows (4 * v + j) 0) (getD slots j 255)) k
+Inv-loop rows slots n v column₀ column = (column ≤ n) × EachBelow (λ k. eqb (getD rows (4 * v + k) 0) (getD slots k 255)) column
 
 abbrev μ-loop : tie.MeasureT-loop
-μ-loop rows slots n v k₀ k = n - k
+μ-loop rows slots n v column₀ column = n - column
 
 loop-holds : tie.Need-loop-holds Inv-loop μ-loop
 loop-holds c = (omega arith, each-start)
@@ -35,11 +35,11 @@ returns : tie.Need-returns Inv-loop μ-loop
 returns c =
     let start = c .before .before .before .before .before in
     let l = c .before .before .before .before .loop in
-    let same = any-default 255 0 (start .args .slots .now) (l .k) (omega arith) in
+    let same = any-default 255 0 (start .args .slots .now) (l .column) (omega arith) in
     other-found (l .inv .1) (start .args .n) (omega arith) (rw same (ne-eqb _ _ (c .if1 .taken)))
 
-add-k : tie.Need-add-k Inv-loop μ-loop
-add-k c = search needs
+add-column : tie.Need-add-column Inv-loop μ-loop
+add-column c = search needs
 
 loop-less : tie.Need-loop-less Inv-loop μ-loop
 loop-less c = search needs
@@ -48,7 +48,7 @@ loop-again : tie.Need-loop-again Inv-loop μ-loop
 loop-again c =
     let start = c .before .before .before .before .before in
     let l = c .before .before .before .before .loop in
-    let same = any-default 255 0 (start .args .slots .now) (l .k) (omega arith) in
+    let same = any-default 255 0 (start .args .slots .now) (l .column) (omega arith) in
     (omega arith, each-more (l .inv .1) (rw same (eq-eqb _ _ (c .if1 .left))))
 
 returns-2 : tie.Need-returns-2 Inv-loop μ-loop
@@ -66,7 +66,7 @@ same-row-spec =
     element-copy-out-if1
     element-copy-out-if1-2
     returns
-    add-k
+    add-column
     loop-less
     loop-again
     returns-2)
