@@ -1,0 +1,40 @@
+-- What is refused, and when, is the check's; the draft with a row more is the stepped ledger's.
+use mathlib.Core.Path.{sym, _∙_}
+use Rattle.kinds.specs.Laws.Drafts.{row-refused, row-accepted}
+use borrow.Author.Needs.{needs}
+use Rattle.kinds.proofs.row.add_row.Statement.{statement}
+use Rattle.kinds.proofs.row.add_row.Tie as tie
+
+check-row-requires : tie.Need-check-row-requires
+check-row-requires c κs = search needs
+
+refused-requires : tie.Need-refused-requires
+refused-requires c κs = search needs
+
+returns : tie.Need-returns
+returns c =
+    let tested = c .before in
+    rw (c .refused .ensures) (row-refused _ _ _ (tested .before .check-row .ensures) (tested .if1 .taken))
+
+with-row-requires : tie.Need-with-row-requires
+with-row-requires c κs = search needs
+
+accepted-requires : tie.Need-accepted-requires
+accepted-requires c κs = search needs
+
+returns-2 : tie.Need-returns-2
+returns-2 c =
+    let made = c .before in
+    let tested = made .before in
+    rw (c .accepted .ensures, made .with-row .ensures) (row-accepted _ _ (sym (tested .if1 .left) ∙ tested .before .check-row .ensures))
+
+pub add-row-spec : {M : Type 1} → statement M
+add-row-spec =
+    tie.close
+    (tie.spec
+    check-row-requires
+    refused-requires
+    returns
+    with-row-requires
+    accepted-requires
+    returns-2)

@@ -1,0 +1,7 @@
+-- The theorems over them.
+pub mod Counts
+pub mod Made
+pub mod Order
+pub mod Promised
+pub mod Fields
+pub mod Drafts
