@@ -1,0 +1,4 @@
+pub mod Done
+pub mod Count
+pub mod Touched
+pub mod Stored
