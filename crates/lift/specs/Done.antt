@@ -29,6 +29,11 @@ pub record Cleared (p : ℕ) (R R′ : RuleBytes) (killers killers′ : List ℕ
 abbrev pub CausedBy : ℕ → RuleBytes → List ℕ → ℕ → Type 0
 CausedBy p R slots = Seeded slots (R .calls) p (columnsOf (R .arity) p)
 
+-- the reopening of what rule p touched, with the marks that it used
+pub record Reopening (p : ℕ) (R : RuleBytes) (touched : ℕ) (killers revived slots opened : List ℕ) (pending : List Bool) : Type 0 where
+  pub marks : List Bool
+  pub relaxed : Relaxed R (CausedBy p R slots) 255 touched killers revived slots opened marks pending
+
 -- no slot has the cause p: the slots stay
 pub record Quiet (p : ℕ) (R R′ : RuleBytes) (killers killers′ slots slots′ : List ℕ) (reopened touched : ℕ) : Type 0 where
   pub none : (j : ℕ) → CausedBy p R slots j → ⊥
