@@ -1,3 +1,4 @@
 pub mod Write
 pub mod Rules
 pub mod Put
+pub mod Stored

@@ -5,7 +5,7 @@ use mathlib.Core.Logic.{_≢_, ⊎-elim}
 use mathlib.Core.Option.{Option, none, some}
 use Prim.Native.Nat.{ℕ, _+_, _*_, _<_}
 use native.Mathlib.Omega.{arith}
-use lib.ListN.{length, getD, set}
+use lib.ListN.{length, getD}
 use lib.Seq.{getD-set-same, getD-set-other}
 use Rattle.tables.specs.Facts.{eq-or-ne}
 use Rattle.model.specs.declared.value.Heads.{Heads}
@@ -14,9 +14,8 @@ use Rattle.model.specs.Board.{Rule, Board, callAt, slotAt, Shape}
 use Rattle.model.specs.Ledger.{NumberedRule, withRule}
 use Rattle.model.specs.Representation.{ruleOr, ruleAt, Headed, Drafted}
 use Rattle.revise.specs.Layout.{RuleBytes, columnsOf, rowsOf, placeOf}
-use Rattle.revise.specs.Rows.{Struck}
 use Rattle.revise.specs.Stable.{Stable}
-use Rattle.settle.specs.Rules.{RulesOf}
+use Rattle.settle.specs.Rules.{RulesOf, bytesIn}
 use Rattle.change.specs.Write.{SameRule, Written}
 
 -- n columns, m rows, the calls of head and the slots of body are those of the rule r
@@ -30,7 +29,7 @@ pub record RuleIs (r : Rule) (n m : ℕ) (head body : List ℕ) : Type 0 where
 pub drafted-is : (d : NumberedRule) (draft : Draft) → Drafted (some d) draft → RuleIs (d .rule) (draft .arity) (draft .length) (draft .calls) (draft .rows)
 drafted-is d draft h = record { arity = h .arity; length-is = h .length-is; calls = h .calls; rows = h .rows }
 
--- and so does the empty rule, where all is 255
+-- and the empty rule is held so where every byte is 255
 pub empty-is : (head body : List ℕ) → ((k : ℕ) → k < 4 → getD head k 0 ≡ 255) → ((i : ℕ) → i < 256 → getD body i 0 ≡ 255) → RuleIs (ruleOr none) 0 0 head body
 empty-is head body hh hb = record { arity = refl; length-is = refl; calls = hh; rows = λ w k lw lk. hb (4 * w + k) (omega arith) }
 
@@ -63,24 +62,25 @@ module _ (B : Board) (shape : Shape B) (p : ℕ) (lp : p < 64) (o : Option Rule)
         at : (q : ℕ) (P : Rule → ℕ → Type 0) → P (ruleOr o) p → (q ≢ p → P (ruleAt B q) q) → P (ruleAt (withRule B p o) q) q
         at q P here there = ⊎-elim (λ (e : q ≡ p). rw (e, rule-here) here) (λ (ne : q ≢ p). rw (rule-there q ne) (there ne)) (eq-or-ne q p)
 
-    pub written-headed : (h : Heads) → Headed B h → (known : RulesOf (withRule B p o) R′) → length (h .arity) ≡ length (R .arity) → length (h .calls) ≡ length (R .calls)
-        → length (h .lengths) ≡ length (R .lengths) → Headed (withRule B p o) (withHeads h R′)
-    written-headed h hd known ea ec el =
-        record {
-          counts-size = hd .counts-size;
-          arity-size = w .arity-size ∙ (rw ea at (hd .arity-size));
-          calls-size = w .calls-size ∙ (rw ec at (hd .calls-size));
-          lengths-size = w .lengths-size ∙ (rw el at (hd .lengths-size));
-          counts = hd .counts;
-          arity = known .arity;
-          calls = known .calls;
-          lengths = known .lengths;
-        }
-
 -- a number is taken out of force by writing the empty rule
 pub written-empty : (B : Board) → Shape B → (p : ℕ) → p < 64 → {head body : List ℕ} (R R′ : RuleBytes) → ((k : ℕ) → k < 4 → getD head k 0 ≡ 255)
     → ((i : ℕ) → i < 256 → getD body i 0 ≡ 255) → Written p 0 0 head body R R′ → RulesOf B R → RulesOf (withRule B p none) R′
 written-empty B shape p lp {head} {body} R R′ hh hb w known = written-rules B shape p lp none R R′ (empty-is head body hh hb) w known
+
+-- the heads of such a board
+pub written-headed : {p n m : ℕ} {head body : List ℕ} {R′ : RuleBytes} (B : Board) (o : Option Rule) (h : Heads) (rows : List ℕ) → Headed B h
+    → Written p n m head body (bytesIn h rows) R′ → RulesOf (withRule B p o) R′ → Headed (withRule B p o) (withHeads h R′)
+written-headed B o h rows headed w known =
+    record {
+      counts-size = headed .counts-size;
+      arity-size = w .arity-size ∙ headed .arity-size;
+      calls-size = w .calls-size ∙ headed .calls-size;
+      lengths-size = w .lengths-size ∙ headed .lengths-size;
+      counts = headed .counts;
+      arity = known .arity;
+      calls = known .calls;
+      lengths = known .lengths;
+    }
 
 -- A RULE WHOSE BYTES ARE THE SAME is as stable as it was
 pub stable-same : (R R′ : RuleBytes) (q : ℕ) (killers slots : List ℕ) → SameRule R R′ q → Stable R killers slots q → Stable R′ killers slots q
@@ -97,3 +97,11 @@ stable-same R R′ q killers slots same st =
           let inside = x .inside in
           record { row = x .row; inside = rw (same .lengths) (x .inside); lives = x .lives; holds = rw (same .bytes (x .row) k (omega arith) (omega arith)) (x .holds) };
     }
+
+pub written-stable : {p n m : ℕ} {head body : List ℕ} {R R′ : RuleBytes} → Written p n m head body R R′ → (killers slots : List ℕ) (q : ℕ) → q ≢ p
+    → Stable R killers slots q → Stable R′ killers slots q
+written-stable {R = R} {R′ = R′} w killers slots q ne st = stable-same R R′ q killers slots (w .other q ne) st
+
+-- and a rule without columns is stable
+pub empty-stable : (R : RuleBytes) (q : ℕ) (killers slots : List ℕ) → getD (R .arity) q 0 ≡ 0 → Stable R killers slots q
+empty-stable R q killers slots e = record { alive = λ w lw l k lk. absurd (omega arith); held = λ k s lk. absurd (omega arith) }

@@ -2,7 +2,6 @@
 // All of it is safe and ends on any contents of the buffers; what it means on a board is in specs/.
 pub mod write; // the bytes of one rule
 
-ghost use Prim.Native.Nat.{_<_};
 ghost use Rattle.revise.specs.Layout.{rules};
 ghost use Rattle.revise.specs.Bounds.{Sizes};
 ghost use Rattle.change.specs.Write.{Writable};

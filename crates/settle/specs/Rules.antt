@@ -21,11 +21,11 @@ pub record RulesOf (B : Board) (R : RuleBytes) : Type 0 where
   pub lengths : (p : ℕ) → p < 64 → getD (R .lengths) p 0 ≡ length (ruleAt B p .rows)
   pub bytes : (p w k : ℕ) → p < 64 → w < 64 → k < 4 → getD (R .rows) (256 * p + 4 * w + k) 0 ≡ slotAt (ruleAt B p) w k
 
--- the bytes of the rules, from heads and rows
-abbrev pub rulesOf : Heads → List ℕ → RuleBytes
-rulesOf h rows = rules rows (h .arity) (h .calls) (h .lengths)
+-- the rules' bytes in heads and rows
+abbrev pub bytesIn : Heads → List ℕ → RuleBytes
+bytesIn h rows = rules rows (h .arity) (h .calls) (h .lengths)
 
-pub stored-rules : (B : Board) (h : Heads) (rows : List ℕ) → Headed B h → RowBytes B rows → RulesOf B (rulesOf h rows)
+pub stored-rules : (B : Board) (h : Heads) (rows : List ℕ) → Headed B h → RowBytes B rows → RulesOf B (bytesIn h rows)
 stored-rules B h rows hd rb = record { arity = hd .arity; calls = hd .calls; lengths = hd .lengths; bytes = rb .bytes }
 
 -- what propagation reads under the number p is the rule r

@@ -19,7 +19,7 @@ use Rattle.revise.specs.Layout.{RuleBytes, Progress, reached, columnsOf, callOf
 use Rattle.revise.specs.Queue.{Idle}
 use Rattle.revise.specs.Stable as bytes
 use Rattle.revise.specs.Steps.{Propagated}
-use Rattle.settle.specs.Rules.{RulesOf, ReadAs, rulesOf, stored-rules, in-force, read-as}
+use Rattle.settle.specs.Rules.{RulesOf, ReadAs, bytesIn, stored-rules, in-force, read-as}
 use Rattle.settle.specs.Working.{Working, steps-working}
 
 -- a byte that is 255 is that of a slot of the board, where the bytes off the board are 254
@@ -46,7 +46,8 @@ module _ (B : Board) (shape : Shape B) (R : RuleBytes) (p : ℕ) (r : Rule) (f :
             (x .row, lw, x .lives, record { column = h .column; counts = h .counts; call = h .call; slot = sym (b .slot (x .row) (h .column) lw lk) ∙ x .holds });
       }
     where
-      alive : (w : ℕ) → w < length (r .rows) → killerOf killers p w ≡ 255 → (k : ℕ) → k < length (r .calls) → OnBoard B (callAt r k) (slotAt r w k) → Open B (markOf slots) (callAt r k) (slotAt r w k)
+      alive : (w : ℕ) → w < length (r .rows) → killerOf killers p w ≡ 255 → (k : ℕ) → k < length (r .calls) → OnBoard B (callAt r k) (slotAt r w k)
+          → Open B (markOf slots) (callAt r k) (slotAt r w k)
       alive w lw e k lk on =
           ⊎-elim
           (λ o. (on, o))
@@ -76,7 +77,7 @@ module _ (B : Board) (shape : Shape B) (R : RuleBytes) (p : ℕ) (r : Rule) (f :
       slot k lk s w h = rw (b .one-column (h .column) k (counts-below B r (h .column) (h .counts)) lk (h .call)) at (h .slot)
 
 -- NOTHING PENDING: the board is stored
-pub settled : (B : Board) → Shape B → (heads : Heads) (rows : List ℕ) (z : Progress) → Headed B heads → Working B (rulesOf heads rows) z → Idle (z .pending)
+pub settled : (B : Board) → Shape B → (heads : Heads) (rows : List ℕ) (z : Progress) → Headed B heads → Working B (bytesIn heads rows) z → Idle (z .pending)
     → Stored B heads rows (z .killers) (z .slots)
 settled B shape heads rows z headed work idle =
     record {
@@ -96,12 +97,12 @@ settled B shape heads rows z headed work idle =
     known =
         stable-recorded B (markOf (z .slots)) (killerOf (z .killers)) (work .sound)
         (λ p r f.
-        let b = read-as B shape (rulesOf heads rows) (work .rules) p r f in
-        stable-of-bytes B shape (rulesOf heads rows) p r f b (z .killers) (z .slots) (work .sound) (work .calm p (b .number) (idle p (b .number))))
+        let b = read-as B shape (bytesIn heads rows) (work .rules) p r f in
+        stable-of-bytes B shape (bytesIn heads rows) p r f b (z .killers) (z .slots) (work .sound) (work .calm p (b .number) (idle p (b .number))))
 
 -- AND THE WAY BACK: on a stored board every rule is stable, whatever is flagged
 pub at-rest : (B : Board) → Shape B → (heads : Heads) (rows killers slots : List ℕ) → Stored B heads rows killers slots → (pending : List Bool)
-    → Working B (rulesOf heads rows) (reached killers slots pending)
+    → Working B (bytesIn heads rows) (reached killers slots pending)
 at-rest B shape heads rows killers slots stored pending =
     record {
       sizes = record { rows-size = stored .row-bytes .rows-size; killers-size = stored .killers-size; slots-size = stored .slots-size };
@@ -116,16 +117,16 @@ at-rest B shape heads rows killers slots stored pending =
           };
     }
   where
-    known : RulesOf B (rulesOf heads rows)
+    known : RulesOf B (bytesIn heads rows)
     known = stored-rules B heads rows (stored .headed) (stored .row-bytes)
 
-    stable : (q k : ℕ) → q < 64 → k < columnsOf (heads .arity) q → bytes.Stable (rulesOf heads rows) killers slots q
+    stable : (q k : ℕ) → q < 64 → k < columnsOf (heads .arity) q → bytes.Stable (bytesIn heads rows) killers slots q
     stable q k lq lk =
-        let x = in-force B shape (rulesOf heads rows) known q k lq lk in
-        bytes-of-stable B shape (rulesOf heads rows) q (x .0) (x .1) (read-as B shape (rulesOf heads rows) known q (x .0) (x .1)) killers slots (stored .off)
+        let x = in-force B shape (bytesIn heads rows) known q k lq lk in
+        bytes-of-stable B shape (bytesIn heads rows) q (x .0) (x .1) (read-as B shape (bytesIn heads rows) known q (x .0) (x .1)) killers slots (stored .off)
         (recorded-stable B (markOf slots) (killerOf killers) (stored .recorded) q (x .0) (x .1))
 
 -- PROPAGATION, from a board at work to one that is stored
-pub propagated-stored : (B : Board) → Shape B → (heads : Heads) (rows : List ℕ) {r : ℕ} (x z : Progress) → Headed B heads → Working B (rulesOf heads rows) x
-    → Propagated (rulesOf heads rows) r x z → Stored B heads rows (z .killers) (z .slots)
-propagated-stored B shape heads rows x z headed work done = settled B shape heads rows z headed (steps-working B shape (rulesOf heads rows) work (done .steps)) (done .idle)
+pub propagated-stored : (B : Board) → Shape B → (heads : Heads) (rows : List ℕ) {r : ℕ} (x z : Progress) → Headed B heads → Working B (bytesIn heads rows) x
+    → Propagated (bytesIn heads rows) r x z → Stored B heads rows (z .killers) (z .slots)
+propagated-stored B shape heads rows x z headed work done = settled B shape heads rows z headed (steps-working B shape (bytesIn heads rows) work (done .steps)) (done .idle)

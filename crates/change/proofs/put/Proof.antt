@@ -1,5 +1,5 @@
 -- The write leaves the lengths as they are, so propagation can follow it.
-use Rattle.change.specs.Put.{only-size, written-sizes}
+use Rattle.change.specs.Put.{written-sizes}
 use borrow.Author.Needs.{needs}
 use Rattle.change.proofs.put.Statement.{statement}
 use Rattle.change.proofs.put.Tie as tie
@@ -14,7 +14,7 @@ propagate-requires : tie.Need-propagate-requires
 propagate-requires c κs =
     let w = c .before .before .before .before .before .before .before .before .before in
     let s = w .before .before .before .before .before .before .before .before in
-    (written-sizes (w .write-rule .ensures) (s .pre .0), only-size (s .args .p))
+    (written-sizes (w .write-rule .ensures) (s .pre .0), search needs)
 
 same-length : tie.Need-same-length
 same-length c = search needs
