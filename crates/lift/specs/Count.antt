@@ -1,14 +1,13 @@
 -- HOW MANY SLOTS A REOPENING OPENS: as many as are marked, where the marked ones were struck and are open, and the others stay.
-use mathlib.Core.Path.{_≡_, refl, ap, _∙_}
+use mathlib.Core.Path.{_≡_, refl, ap}
 use mathlib.Core.List.{List, [], _∷_}
-use mathlib.Core.Logic.{_⊎_, ⊎-elim}
 use mathlib.Core.Bool.{Bool, true, false}
-use Prim.Native.Nat.{ℕ, zero, suc, _+_, _≤_, _<_}
+use Prim.Native.Nat.{ℕ, suc, _+_, _≤_, _<_}
 use native.Mathlib.Omega.{arith}
 use lib.ListN.{length, getD}
 use borrow.Author.Tests.{eq-eqb, ne-eqb, lt-ltb}
 use Rattle.tables.specs.Facts.{true-false}
-use Rattle.tables.specs.Count.{bit, count, bit-le}
+use Rattle.tables.specs.Count.{bit, count}
 use Rattle.revise.specs.Strikes.{isOpen, isStruck}
 use Rattle.revise.specs.Queue.{IsFlagged}
 use Rattle.relax.specs.Spread.{isMarked}

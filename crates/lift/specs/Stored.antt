@@ -3,43 +3,39 @@
 use mathlib.Core.Path.{_≡_, refl, sym, ap, _∙_}
 use mathlib.Core.List.{List}
 use mathlib.Core.Logic.{_⊎_, _≢_, inl, inr, ⊎-elim}
-use mathlib.Core.Option.{Option, none, some}
+use mathlib.Core.Option.{none}
 use mathlib.Core.Bool.{Bool, true, false}
 use Prim.Native.Nat.{ℕ, _+_, _*_, _-_, _/_, _%_, _<_, _≤_, zero-le, min}
 use native.Mathlib.Omega.{arith}
 use native.Mathlib.Nat.{sub-le}
-use lib.ListN.{length, getD, set, replicate, getD-replicate, length-set, length-replicate}
-use lib.Seq.{getD-set-same, getD-set-other}
+use lib.ListN.{length, getD, set, replicate, getD-replicate}
+use lib.Seq.{getD-set-other}
 use borrow.Author.Tests.{eq-eqb, eqb-true}
-use Rattle.tables.specs.Facts.{eq-or-ne, true-false}
-use Rattle.tables.specs.Sweep.{Swept}
+use Rattle.tables.specs.Facts.{eq-or-ne}
 use Rattle.tables.specs.Count.{count}
 use Rattle.tables.specs.Lost.{lost-zero}
 use Rattle.model.specs.declared.value.Heads.{Heads}
-use Rattle.model.specs.Board.{Rule, Board, InForce, OnBoard, Shape, Viable, AtLeast}
-use Rattle.model.specs.Records.{Sound}
+use Rattle.model.specs.Board.{Board, OnBoard, Shape, AtLeast}
 use Rattle.model.specs.Ledger.{withRule}
 use Rattle.model.specs.Report.{markOf, struckBetween, reopenedBetween, struckIn}
-use Rattle.model.specs.Representation.{killerOf, ruleAt, ruleOr, Headed, Stored}
+use Rattle.model.specs.Representation.{killerOf, ruleAt, Headed, Stored}
 use Rattle.model.specs.Laws.Tests.{none-some}
 use Rattle.model.specs.Laws.Theory.{viable-mono}
 use Rattle.model.specs.Laws.Shapes.{shape-with}
 use Rattle.model.specs.Laws.Change.{ClosedFor, Reopens, reopen-sound, lifted-from}
-use Rattle.revise.specs.Layout.{RuleBytes, Progress, reached, columnsOf, rowsOf}
-use Rattle.revise.specs.Bounds.{Sizes}
+use Rattle.revise.specs.Layout.{RuleBytes, reached, rowsOf}
 use Rattle.revise.specs.Strikes.{isOpen, isStruck, open-not-struck}
-use Rattle.revise.specs.Stable.{Stable, Calm, stable-keep}
-use Rattle.revise.specs.Steps.{Propagated}
+use Rattle.revise.specs.Stable.{Stable, stable-keep}
 use Rattle.revise.specs.Queue.{IsFlagged}
 use Rattle.relax.specs.Relaxed.{Relaxed}
 use Rattle.relax.specs.Spread.{isMarked}
 use Rattle.relax.specs.Laws.{stays-stable}
-use Rattle.settle.specs.Rules.{RulesOf, rulesOf, stored-rules}
+use Rattle.settle.specs.Rules.{RulesOf, bytesIn, stored-rules}
 use Rattle.settle.specs.Working.{Working}
 use Rattle.settle.specs.Settled.{settled, at-rest, propagated-stored}
 use Rattle.settle.specs.Counts.{lost-struck, count-struck, open-exchange, stored-slots}
-use Rattle.change.specs.Write.{Written, swept-apart}
-use Rattle.change.specs.Rules.{withHeads, rule-there, written-empty, written-headed, empty-is, stable-same}
+use Rattle.change.specs.Write.{swept-apart}
+use Rattle.change.specs.Rules.{withHeads, rule-there, written-empty, written-headed, written-stable, empty-stable}
 use Rattle.lift.specs.Done.{Cleared, CausedBy, Quiet, Reworked, LiftDone}
 use Rattle.lift.specs.Count.{opens-count, marked-struck}
 use Rattle.lift.specs.Touched.{Marked, marked?, caused-seeded, marked-was-struck, marked-closed, marked-reopens}
@@ -78,27 +74,27 @@ pub record LiftStored (B : Board) (p : ℕ) (heads : Heads) (R′ : RuleBytes) (
   pub most : touched ≤ struckIn slots
 
 module _ (B : Board) (shape : Shape B) (p : ℕ) (lp : p < 64) (heads : Heads) (rows killers slots : List ℕ) (stored : Stored B heads rows killers slots) where
-  known : RulesOf B (rulesOf heads rows)
+  known : RulesOf B (bytesIn heads rows)
   known = stored-rules B heads rows (stored .headed) (stored .row-bytes)
 
   shape′ : Shape (withRule B p none)
   shape′ = shape-with B p none shape lp (λ r e. none-some e)
 
   -- the killers of the other rules stay where rule p is cleared
-  others : {R′ : RuleBytes} {a b : List ℕ} → Cleared p (rulesOf heads rows) R′ a b → (q w : ℕ) → q ≢ p → w < 64 → killerOf b q w ≡ killerOf a q w
+  others : {R′ : RuleBytes} {a b : List ℕ} → Cleared p (bytesIn heads rows) R′ a b → (q w : ℕ) → q ≢ p → w < 64 → killerOf b q w ≡ killerOf a q w
   others c q w n lw = swept-apart 64 p q w (c .killers-empty) n lw
 
-  stable : (q : ℕ) → q < 64 → Stable (rulesOf heads rows) killers slots q
+  stable : (q : ℕ) → q < 64 → Stable (bytesIn heads rows) killers slots q
   stable q lq = at-rest B shape heads rows killers slots stored (replicate 64 false) .calm q lq (getD-replicate 64 q false false lq)
 
   -- AT WORK WITHOUT THE RULE: some set was reopened, the rule was cleared, and the rules that are not pending kept their slots and killers
-  module _ (R′ : RuleBytes) (revived emptied opened : List ℕ) (pending : List Bool) (cleared : Cleared p (rulesOf heads rows) R′ revived emptied)
+  module _ (R′ : RuleBytes) (revived emptied opened : List ℕ) (pending : List Bool) (cleared : Cleared p (bytesIn heads rows) R′ revived emptied)
       (Z : ℕ → ℕ → Type 0) (test : (c s : ℕ) → Z c s ⊎ (Z c s → ⊥)) (closed : ClosedFor B p (markOf slots) (killerOf killers) Z)
       (re : Reopens B p Z (markOf slots) (markOf opened) (killerOf killers) (killerOf emptied))
       (size : length opened ≡ 1024) (revived-size : length revived ≡ 4096)
       (off : (c s : ℕ) → c < 32 → s < 32 → (OnBoard B c s → ⊥) → markOf opened c s ≡ 254)
       (past : (q w : ℕ) → q < 64 → w < 64 → q ≢ p → length (ruleAt B q .rows) ≤ w → killerOf revived q w ≡ 255)
-      (still : (q : ℕ) → q < 64 → q ≢ p → getD pending q false ≡ false → Stable (rulesOf heads rows) revived opened q) where
+      (still : (q : ℕ) → q < 64 → q ≢ p → getD pending q false ≡ false → Stable (bytesIn heads rows) revived opened q) where
     working : Working (withRule B p none) R′ (reached emptied opened pending)
     working =
         record {
@@ -115,25 +111,22 @@ module _ (B : Board) (shape : Shape B) (p : ℕ) (lp : p < 64) (heads : Heads) (
         }
       where
         known′ : RulesOf (withRule B p none) R′
-        known′ = written-empty B shape p lp (rulesOf heads rows) R′ (cleared .head-empty) (cleared .body-empty) (cleared .written) known
+        known′ = written-empty B shape p lp (bytesIn heads rows) R′ (cleared .head-empty) (cleared .body-empty) (cleared .written) known
 
         spare : (q w : ℕ) → q < 64 → w < 64 → q ≢ p → length (ruleAt (withRule B p none) q .rows) ≤ w → killerOf emptied q w ≡ 255
         spare q w lq lw n le = others cleared q w n lw ∙ past q w lq lw n (rw (rule-there B shape p lp none q n) at le)
 
         gone : Stable R′ emptied opened p
-        gone =
-            let z = cleared .written .arity in
-            record { alive = λ w lw e k lk. absurd (omega arith); held = λ k s lk. absurd (omega arith) }
+        gone = empty-stable R′ p emptied opened (cleared .written .arity)
 
         calm : (q : ℕ) → q < 64 → q ≢ p → getD pending q false ≡ false → Stable R′ emptied opened q
         calm q lq n e =
-            stable-same (rulesOf heads rows) R′ q emptied opened (cleared .written .other q n)
-            (stable-keep (rulesOf heads rows) q revived emptied opened opened (λ k s lk ls. refl) (λ w lw. others cleared q w n (omega arith)) (still q lq n e))
+            written-stable (cleared .written) emptied opened q n
+            (stable-keep (bytesIn heads rows) q revived emptied opened opened (λ k s lk ls. refl) (λ w lw. others cleared q w n (omega arith)) (still q lq n e))
 
     headed′ : Headed (withRule B p none) (withHeads heads R′)
     headed′ =
-        written-headed B shape p lp none (rulesOf heads rows) R′ (empty-is (cleared .head) (cleared .body) (cleared .head-empty) (cleared .body-empty)) (cleared .written) heads
-        (stored .headed) (working .rules) refl refl refl
+        written-headed B none heads rows (stored .headed) (cleared .written) (working .rules)
 
   -- no slot that was open is struck
   none-struck : {R′ : RuleBytes} {killers′ slots′ : List ℕ} → Stored (withRule B p none) (withHeads heads R′) (R′ .rows) killers′ slots′ → struckBetween slots slots′ ≡ 0
@@ -154,7 +147,7 @@ module _ (B : Board) (shape : Shape B) (p : ℕ) (lp : p < 64) (heads : Heads) (
           eq-eqb (getD slots′ j 0) 255 is
 
   -- WHERE THE RULE STRUCK NOTHING, nothing reopens
-  quiet-stored : {R′ : RuleBytes} {killers′ slots′ : List ℕ} {reopened touched : ℕ} → Quiet p (rulesOf heads rows) R′ killers killers′ slots slots′ reopened touched
+  quiet-stored : {R′ : RuleBytes} {killers′ slots′ : List ℕ} {reopened touched : ℕ} → Quiet p (bytesIn heads rows) R′ killers killers′ slots slots′ reopened touched
       → LiftStored B p heads R′ killers′ slots slots′ reopened touched
   quiet-stored {R′} {killers′} {slots′} {reopened} {touched} q =
       record {
@@ -168,7 +161,7 @@ module _ (B : Board) (shape : Shape B) (p : ℕ) (lp : p < 64) (heads : Heads) (
       closed : ClosedFor B p (markOf slots) (killerOf killers) (λ c s. ⊥)
       closed =
           record {
-            seed = λ c s on e. q .none (32 * c + s) (caused-seeded B shape (rulesOf heads rows) known killers slots (stored .recorded) p lp c s on e);
+            seed = λ c s on e. q .none (32 * c + s) (caused-seeded B shape (bytesIn heads rows) known killers slots (stored .recorded) p lp c s on e);
             more = λ c s h r f w lw hd k. k .member;
           }
 
@@ -201,7 +194,7 @@ module _ (B : Board) (shape : Shape B) (p : ℕ) (lp : p < 64) (heads : Heads) (
           (ap (count isOpen) (q .slots-same))
 
   -- WHERE IT STRUCK SOMETHING, the touched slots reopen, less those that are struck again
-  reworked-stored : {R′ : RuleBytes} {killers′ slots′ : List ℕ} {reopened touched : ℕ} → Reworked p (rulesOf heads rows) R′ killers killers′ slots slots′ reopened touched
+  reworked-stored : {R′ : RuleBytes} {killers′ slots′ : List ℕ} {reopened touched : ℕ} → Reworked p (bytesIn heads rows) R′ killers killers′ slots slots′ reopened touched
       → LiftStored B p heads R′ killers′ slots slots′ reopened touched
   reworked-stored {R′} {killers′} {slots′} {reopened} {touched} d =
       record {
@@ -214,17 +207,17 @@ module _ (B : Board) (shape : Shape B) (p : ℕ) (lp : p < 64) (heads : Heads) (
             (count-struck slots (stored .slots-size));
       }
     where
-      x : Relaxed (rulesOf heads rows) (CausedBy p (rulesOf heads rows) slots) 255 touched killers (d .revived) slots (d .opened) (d .marks) (d .pending)
+      x : Relaxed (bytesIn heads rows) (CausedBy p (bytesIn heads rows) slots) 255 touched killers (d .revived) slots (d .opened) (d .marks) (d .pending)
       x = d .relaxed
 
       was : (j : ℕ) → IsFlagged (d .marks) j → getD slots j 0 < 64
-      was = marked-was-struck B shape (rulesOf heads rows) known killers slots (stored .recorded) p lp x
+      was = marked-was-struck B shape (bytesIn heads rows) known killers slots (stored .recorded) p lp x
 
       closed : ClosedFor B p (markOf slots) (killerOf killers) (Marked (d .marks))
-      closed = marked-closed B shape (rulesOf heads rows) known killers slots (stored .recorded) p lp x
+      closed = marked-closed B shape (bytesIn heads rows) known killers slots (stored .recorded) p lp x
 
       re : Reopens B p (Marked (d .marks)) (markOf slots) (markOf (d .opened)) (killerOf killers) (killerOf (d .emptied))
-      re = marked-reopens B shape (rulesOf heads rows) known killers slots (stored .recorded) p lp x (d .emptied) (λ q w n lw. others (d .cleared) q w n lw)
+      re = marked-reopens B shape (bytesIn heads rows) known killers slots (stored .recorded) p lp x (d .emptied) (λ q w n lw. others (d .cleared) q w n lw)
 
       -- a byte off the board is no cause, so it is not marked
       off : (c s : ℕ) → c < 32 → s < 32 → (OnBoard B c s → ⊥) → markOf (d .opened) c s ≡ 254
@@ -243,7 +236,7 @@ module _ (B : Board) (shape : Shape B) (p : ℕ) (lp : p < 64) (heads : Heads) (
           beyond : (m l k w : ℕ) → m ≡ min l 64 → l ≡ k → k ≤ w → w < m → ⊥
           beyond m l k w e g h lt = omega arith
 
-      still : (q : ℕ) → q < 64 → q ≢ p → getD (set (d .pending) p false) q false ≡ false → Stable (rulesOf heads rows) (d .revived) (d .opened) q
+      still : (q : ℕ) → q < 64 → q ≢ p → getD (set (d .pending) p false) q false ≡ false → Stable (bytesIn heads rows) (d .revived) (d .opened) q
       still q lq n e = stays-stable x q lq (sym (getD-set-other (d .pending) p q false false n) ∙ e) (stable q lq)
 
       after : Stored (withRule B p none) (withHeads heads R′) (R′ .rows) killers′ slots′
@@ -265,7 +258,7 @@ module _ (B : Board) (shape : Shape B) (p : ℕ) (lp : p < 64) (heads : Heads) (
           (x .total) reopened (d .difference)
 
   -- A LIFT, either way
-  pub lift-stored : {R′ : RuleBytes} {killers′ slots′ : List ℕ} {reopened touched : ℕ} → LiftDone p (rulesOf heads rows) R′ killers killers′ slots slots′ reopened touched
+  pub lift-stored : {R′ : RuleBytes} {killers′ slots′ : List ℕ} {reopened touched : ℕ} → LiftDone p (bytesIn heads rows) R′ killers killers′ slots slots′ reopened touched
       → LiftStored B p heads R′ killers′ slots slots′ reopened touched
   lift-stored (inl q) = quiet-stored q
   lift-stored (inr d) = reworked-stored d

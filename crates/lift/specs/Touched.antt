@@ -1,25 +1,25 @@
 -- THE TOUCHED SLOTS ON A BOARD: they are closed for the lift, and their reopening over the bytes is the model's.
-use mathlib.Core.Path.{_≡_, refl, sym, ap, subst, _∙_}
+use mathlib.Core.Path.{_≡_, refl, subst, _∙_}
 use mathlib.Core.List.{List}
 use mathlib.Core.Logic.{_⊎_, _≢_, inl, inr, ⊎-elim}
-use mathlib.Core.Bool.{Bool, true, false}
-use Prim.Native.Nat.{ℕ, _+_, _*_, _<_, _≤_}
+use mathlib.Core.Bool.{Bool, false}
+use Prim.Native.Nat.{ℕ, _+_, _*_, _<_}
 use native.Mathlib.Omega.{arith}
 use lib.ListN.{length, getD}
-use Rattle.tables.specs.Facts.{true-or-false, true-false, lt-or-le}
+use Rattle.tables.specs.Facts.{true-or-false, true-false}
 use Rattle.model.specs.Board.{Rule, Board, callAt, slotAt, OnBoard, InForce, Counts, OnCall, Holds, Shape}
-use Rattle.model.specs.Records.{Struck, KillerIn, RingAt, Sound, Recorded}
+use Rattle.model.specs.Records.{Struck, KillerIn, RingAt, Recorded}
 use Rattle.model.specs.Report.{markOf}
 use Rattle.model.specs.Representation.{killerOf}
-use Rattle.model.specs.Laws.Theory.{counts-below, below-counts, one-rule, struck-caused, rings-empty}
-use Rattle.model.specs.Laws.Change.{number-below, column-below, on-range, row-on-board, ClosedFor, Reopens}
-use Rattle.revise.specs.Layout.{RuleBytes, columnsOf, rowsOf, callOf, slotOf, placeOf}
+use Rattle.model.specs.Laws.Theory.{counts-below, below-counts, struck-caused, rings-empty}
+use Rattle.model.specs.Laws.Change.{column-below, on-range, ClosedFor, Reopens}
+use Rattle.revise.specs.Layout.{RuleBytes, callOf, placeOf}
 use Rattle.revise.specs.Queue.{IsFlagged}
 use Rattle.relax.specs.Reach.{seed, joins}
 use Rattle.relax.specs.Touched.{NoOwnKill, Touched}
 use Rattle.relax.specs.Relaxed.{Relaxed}
 use Rattle.relax.specs.Laws.{touched-struck}
-use Rattle.settle.specs.Rules.{RulesOf, ReadAs, in-force, read-as}
+use Rattle.settle.specs.Rules.{RulesOf, in-force, read-as}
 use Rattle.lift.specs.Done.{CausedBy}
 
 -- slot s of call c is marked

@@ -6,7 +6,7 @@ ghost use mathlib.Core.Path.{_≡_};
 ghost use Prim.Native.Nat.{_*_, _-_, _<_};
 ghost use lib.ListN.{length};
 ghost use Rattle.tables.specs.Sweep.{Swept};
-ghost use Rattle.revise.specs.Layout.{rules, columnsOf};
+ghost use Rattle.revise.specs.Layout.{rules};
 ghost use Rattle.revise.specs.Bounds.{Sizes};
 ghost use Rattle.change.specs.Write.{Writable};
 ghost use Rattle.lift.specs.Done.{Emptied, Cleared, Reopening, Reworked, LiftDone};

@@ -1,49 +1,46 @@
+-- One killer byte more is 255 in each turn.
+use mathlib.Core.Path.{refl}
+use Prim.Native.Nat.{_≤_, _*_, _-_}
+use native.Mathlib.Omega.{arith}
+use borrow.Author.Needs.{needs}
+use Rattle.tables.specs.Sweep.{Swept, one-set, swept-none, swept-more, swept-at}
+use Rattle.lift.specs.Done.{Emptied}
 use Rattle.lift.proofs.clear_killers.Statement.{statement}
 use Rattle.lift.proofs.clear_killers.Tie as tie
-use Rattle.lift.proofs.clear_killers.Reads as reads
-use Rattle.lift.proofs.clear_killers.Lts as lts
 
 abbrev Inv-loop : tie.InvT-loop
-Inv-loop killers₀ p w₀ killers w = ?
+Inv-loop killers₀ p w₀ killers w = (w ≤ 64) × Swept 0 Emptied (64 * p) w killers₀ killers
 
 abbrev μ-loop : tie.MeasureT-loop
-μ-loop killers₀ p w₀ killers w = ?
+μ-loop killers₀ p w₀ killers w = 64 - w
 
--- src/lib.rt:27:5
 loop-holds : tie.Need-loop-holds Inv-loop μ-loop
-loop-holds c = ?
+loop-holds c = (omega arith, swept-none 0 _ _ _)
 
--- src/lib.rt:28:17
 mul-killers : tie.Need-mul-killers Inv-loop μ-loop
-mul-killers c = ?
+mul-killers c = search needs
 
--- src/lib.rt:28:17
 add-killers : tie.Need-add-killers Inv-loop μ-loop
-add-killers c = ?
+add-killers c = search needs
 
--- src/lib.rt:28:9
 slice-write-killers : tie.Need-slice-write-killers Inv-loop μ-loop
-slice-write-killers c = ?
+slice-write-killers c = omega (arith, c .before .loop .inv .1 .len)
 
--- src/lib.rt:29:9
 add-w : tie.Need-add-w Inv-loop μ-loop
-add-w c = ?
+add-w c = search needs
 
--- src/lib.rt:27:5
 loop-less : tie.Need-loop-less Inv-loop μ-loop
-loop-less c = ?
+loop-less c = search needs
 
--- src/lib.rt:27:5
 loop-again : tie.Need-loop-again Inv-loop μ-loop
-loop-again c = ?
+loop-again c =
+    (omega arith, swept-more 0 _ _ _ _ _ _ (c .before .loop .inv .1) (one-set 0 _ _ _ _ _ (omega (arith, c .before .loop .inv .1 .len)) refl))
 
--- src/lib.rt:21:1
 same-length : tie.Need-same-length Inv-loop μ-loop
-same-length c = ?
+same-length c = c .before .loop .inv .1 .len
 
--- src/lib.rt:21:1
 returns : tie.Need-returns Inv-loop μ-loop
-returns c = ?
+returns c = swept-at 0 _ _ (c .before .loop .inv .1) (omega arith) (omega arith)
 
 pub clear-killers-spec : {M : Type 1} → statement M
 clear-killers-spec =
