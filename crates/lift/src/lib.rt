@@ -49,7 +49,7 @@ pub fn clear_rule(
     clear_killers(killers, p);
 }
 
-// What rule p, of n columns, struck reopens, with all that leaned on it. The rules on the reopened calls are pending at the end.
+// What rule p struck reopens, with all that leaned on it. The rules on the reopened calls are pending at the end.
 pub fn reopen(
     rows: &[u8],
     killers: &mut [u8],
