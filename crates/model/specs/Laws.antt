@@ -11,8 +11,5 @@ pub mod Lists
 pub mod Samples
 pub mod Reports
 pub mod WrongBoards
-<<<<<<< HEAD
 pub mod Entry
-=======
 pub mod Questions
->>>>>>> questions
