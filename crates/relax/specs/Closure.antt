@@ -13,10 +13,11 @@ use Rattle.tables.specs.Count.{bit, count, count-le, count-set}
 use Rattle.revise.specs.Layout.{RuleBytes, columnsOf, placeOf}
 use Rattle.revise.specs.Queue.{IsFlagged, OnCalls, Enqueued, Idle}
 use Rattle.revise.specs.Bounds.{PendingRule}
+use Rattle.revise.specs.Step.{isPending}
 use Rattle.relax.specs.Reach.{Reach, seed, joins, reach-join, reach-in}
 use Rattle.relax.specs.Touched.{RuleJustifies, Touched, NoOwnKill, Covers}
 use Rattle.relax.specs.Bounds.{MarkTables}
-use Rattle.relax.specs.Spread.{isMarked, spread-stays, spread-zero, flag-in}
+use Rattle.relax.specs.Spread.{spread-stays, spread-zero, flag-in}
 use Rattle.relax.specs.Scan.{Scans}
 
 -- entry j is c, and is flagged
@@ -43,7 +44,7 @@ marking marks flags pending = record { marks = marks; flags = flags; pending = p
 
 -- the measure: a scan sets a mark, which may make all 64 rules pending, or it leaves one rule less pending
 abbrev pub unsettled : Marking → ℕ
-unsettled x = 65 * count not (x .marks) + count isMarked (x .pending)
+unsettled x = 65 * count not (x .marks) + count isPending (x .pending)
 
 -- rule p has a column on the call of slot byte j
 abbrev pub OnCallOf : RuleBytes → ℕ → ℕ → Type 0
@@ -76,7 +77,7 @@ module _ (R : RuleBytes) (killers slots : List ℕ) (q : ℕ) {r : ℕ} (x : Mar
       let l : length pending ≡ 64 = e .len ∙ length-set (x .pending) q false ∙ pre .size in
       record {
         rule = pre .rule;
-        less = omega (arith, count-le isMarked pending);
+        less = omega (arith, count-le isPending pending);
         sizes = record { marked = record { marks-size = s .spread .only .len ∙ tables .marks-size; flags-size = f .len ∙ tables .flags-size }; pending-size = l };
         stays = spread-stays (s .spread);
         full = s .full;
@@ -99,13 +100,13 @@ module _ (R : RuleBytes) (killers slots : List ℕ) (q : ℕ) {r : ℕ} (x : Mar
   expanded-quiet e =
       let same = spread-zero (s .spread) e in
       let back : (j : ℕ) → IsFlagged marks j → IsFlagged (x .marks) j = λ j o. rw same at o in
-      let was : bit (isMarked (getD (x .pending) q false)) ≡ 1 = ap bit (pre .was) in
+      let was : bit (isPending (getD (x .pending) q false)) ≡ 1 = ap bit (pre .was) in
       let lq = pre .rule in
       let size = pre .size in
       let kept = ap (count not) same in
       record {
         rule = lq;
-        less = omega (arith, count-set isMarked false false (x .pending) q (omega arith));
+        less = omega (arith, count-set isPending false false (x .pending) q (omega arith));
         sizes = record { marked = record { marks-size = s .spread .only .len ∙ tables .marks-size; flags-size = tables .flags-size }; pending-size = length-set (x .pending) q false ∙ size };
         stays = spread-stays (s .spread);
         full = s .full;
