@@ -57,6 +57,23 @@ pub fn with_row(draft: Draft, row: Row) -> Draft
     next
 }
 
+// Adds one row to a draft that is lent.
+pub fn push_row(draft: &mut Draft, row: Row)
+    ensures { λ _. ⌜ now (draft .exit) ≡ withRow (now (draft .entry)) row ⌝ }
+{
+    let next = with_row(*draft, row);
+    *draft = next;
+}
+
+// The draft that push_row leaves of a copy: whoever calls this one handles no reference.
+pub fn pushed(draft: Draft, row: Row) -> Draft
+    ensures { λ r. ⌜ r ≡ withRow draft row ⌝ }
+{
+    let mut copy = draft;
+    push_row(&mut copy, row);
+    copy
+}
+
 pub fn add_row(value: Value, row: Row) -> Outcome
     ensures { λ r. ⌜ AddsRow value row r ⌝ }
 {
@@ -67,6 +84,6 @@ pub fn add_row(value: Value, row: Row) -> Outcome
     if n != 0 {
         return crate::outcome::refused(n, value);
     }
-    let draft = with_row(draft, row);
+    let draft = pushed(draft, row);
     crate::outcome::accepted(Value { heads, draft })
 }

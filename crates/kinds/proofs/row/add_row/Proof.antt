@@ -16,8 +16,8 @@ returns c =
     let tested = c .before in
     rw (c .refused .ensures) (row-refused _ _ _ (tested .before .check-row .ensures) (tested .if1 .taken))
 
-with-row-requires : tie.Need-with-row-requires
-with-row-requires c κs = search needs
+pushed-requires : tie.Need-pushed-requires
+pushed-requires c κs = search needs
 
 accepted-requires : tie.Need-accepted-requires
 accepted-requires c κs = search needs
@@ -26,7 +26,7 @@ returns-2 : tie.Need-returns-2
 returns-2 c =
     let made = c .before in
     let tested = made .before in
-    rw (c .accepted .ensures, made .with-row .ensures) (row-accepted _ _ (sym (tested .if1 .left) ∙ tested .before .check-row .ensures))
+    rw (c .accepted .ensures, made .pushed .ensures) (row-accepted _ _ (sym (tested .if1 .left) ∙ tested .before .check-row .ensures))
 
 pub add-row-spec : {M : Type 1} → statement M
 add-row-spec =
@@ -35,6 +35,6 @@ add-row-spec =
     check-row-requires
     refused-requires
     returns
-    with-row-requires
+    pushed-requires
     accepted-requires
     returns-2)
