@@ -1,0 +1,45 @@
+-- The killer's byte is written where its slot is marked, and kept where it is not.
+use mathlib.Core.Path.{refl}
+use native.Mathlib.Omega.{arith}
+use Rattle.tables.specs.Sweep.{one-set, one-keep}
+use borrow.Author.Needs.{needs}
+use borrow.Author.Needs.{needs}
+use Rattle.relax.proofs.revive.revive_row.Statement.{statement}
+use Rattle.relax.proofs.revive.revive_row.Tie as tie
+
+killer-marked-requires : tie.Need-killer-marked-requires
+killer-marked-requires c κs = search needs
+
+mul-killers : tie.Need-mul-killers
+mul-killers c = search needs
+
+add-killers : tie.Need-add-killers
+add-killers c = search needs
+
+slice-write-killers : tie.Need-slice-write-killers
+slice-write-killers c = search needs
+
+same-length : tie.Need-same-length
+same-length c = search needs
+
+returns : tie.Need-returns
+returns c = let d = c .before .killer-marked .ensures .found (c .if1 .taken) in one-set 0 _ _ _ _ _ (omega arith) (record { written = λ x. refl; kept = λ out. absurd (out d) })
+
+same-length-2 : tie.Need-same-length-2
+same-length-2 c = search needs
+
+returns-2 : tie.Need-returns-2
+returns-2 c = let d = c .before .killer-marked .ensures .absent (c .if1 .left) in one-keep 0 _ _ _ _ (record { written = λ x. absurd (d x); kept = λ out. refl })
+
+pub revive-row-spec : {M : Type 1} → statement M
+revive-row-spec =
+    tie.close
+    (tie.spec
+    killer-marked-requires
+    mul-killers
+    add-killers
+    slice-write-killers
+    same-length
+    returns
+    same-length-2
+    returns-2)

@@ -1,0 +1,11 @@
+pub mod Reach
+pub mod Touched
+pub mod Bounds
+pub mod Spread
+pub mod Scan
+pub mod Seed
+pub mod Closure
+pub mod Reopen
+pub mod Revive
+pub mod Relaxed
+pub mod Laws

@@ -1,0 +1,91 @@
+// The seed of a lift: the slots of a rule's calls that have the rule as their cause.
+ghost use mathlib.Core.Path.{_≡_};
+ghost use Prim.Native.Nat.{_≤_, _<_};
+ghost use lib.ListN.{length};
+ghost use Rattle.relax.specs.Touched.{CallCaused, Seeded};
+ghost use Rattle.relax.specs.Bounds.{MarkTables};
+ghost use Rattle.relax.specs.Spread.{Adds};
+ghost use Rattle.relax.specs.Seed.{Finds};
+
+// Whether a slot of call c has the cause p.
+pub fn caused_on(slots: &[u8], p: u8, c: usize) -> bool
+    requires { ⌜ length (now slots) ≡ 1024 ⌝ }
+    requires { ⌜ c < 32 ⌝ }
+    ensures { λ r. ⌜ Finds (CallCaused (now (slots .entry)) p c) r ⌝ }
+{
+    let mut s = 0;
+    while s < 32 {
+        if slots[32 * c + s] == p {
+            return true;
+        }
+        s += 1;
+    }
+    false
+}
+
+// Whether a slot on the calls of n columns of rule p has the cause p: without one, a lift of p touches nothing.
+pub fn caused_any(slots: &[u8], calls: &[u8; 256], p: usize, n: usize) -> bool
+    requires { ⌜ length (now slots) ≡ 1024 ⌝ }
+    requires { ⌜ p < 64 ⌝ }
+    requires { ⌜ n ≤ 4 ⌝ }
+    ensures { λ r. ⌜ Finds (Seeded (now (slots .entry)) (now (calls .entry)) p n) r ⌝ }
+{
+    let mut k = 0;
+    while k < n {
+        let c = (calls[4 * p + k] % 32) as usize;
+        if caused_on(slots, p as u8, c) {
+            return true;
+        }
+        k += 1;
+    }
+    false
+}
+
+// Marks the slots of call c with the cause p.
+pub fn mark_call(
+    slots: &[u8],
+    marks: &mut [bool; 1024],
+    flagged: &mut [bool; 32],
+    p: u8,
+    c: usize,
+) -> usize
+    requires { ⌜ length (now slots) ≡ 1024 ⌝ }
+    requires { ⌜ MarkTables (now marks) (now flagged) ⌝ }
+    requires { ⌜ c < 32 ⌝ }
+    ensures { λ r. ⌜ Adds (CallCaused (now (slots .entry)) p c) r (now (marks .entry)) (now (marks .exit)) (now (flagged .entry)) (now (flagged .exit)) ⌝ }
+{
+    let mut total = 0;
+    let mut s = 0;
+    while s < 32 {
+        let d = crate::scan::mark_slot(slots, marks, flagged, p, 32 * c + s);
+        total += d;
+        s += 1;
+    }
+    total
+}
+
+// Marks the slots on the calls of n columns of rule p with the cause p. The number of new marks.
+pub fn mark_seed(
+    slots: &[u8],
+    calls: &[u8; 256],
+    marks: &mut [bool; 1024],
+    flagged: &mut [bool; 32],
+    p: usize,
+    n: usize,
+) -> usize
+    requires { ⌜ length (now slots) ≡ 1024 ⌝ }
+    requires { ⌜ MarkTables (now marks) (now flagged) ⌝ }
+    requires { ⌜ p < 64 ⌝ }
+    requires { ⌜ n ≤ 4 ⌝ }
+    ensures { λ r. ⌜ Adds (Seeded (now (slots .entry)) (now (calls .entry)) p n) r (now (marks .entry)) (now (marks .exit)) (now (flagged .entry)) (now (flagged .exit)) ⌝ }
+{
+    let mut total = 0;
+    let mut k = 0;
+    while k < n {
+        let c = (calls[4 * p + k] % 32) as usize;
+        let d = mark_call(slots, marks, flagged, p as u8, c);
+        total += d;
+        k += 1;
+    }
+    total
+}
