@@ -4,6 +4,7 @@ use mathlib.Core.List.{List, [], _∷_}
 use Prim.Native.Nat.{ℕ, _%_}
 use lib.ListN.{getD}
 use lib.Dec.{eqb}
+use Rattle.model.specs.Ledger.{badNumber}
 
 -- "6 no board": the first call has no slots
 abbrev pub noCalls : List ℕ → Bool
@@ -16,3 +17,7 @@ noRule arity number = eqb (getD arity (number % 64) 0) 0
 -- KIND 4, in the table's order, for a draft of this number and so many columns
 abbrev pub putChecks : List ℕ → List ℕ → ℕ → ℕ → List (Bool × ℕ)
 putChecks counts arity number columns = (noCalls counts, 6) ∷ (eqb columns 0, 12) ∷ (not (noRule arity number), 16) ∷ []
+
+-- KIND 5, in the table's order
+abbrev pub liftChecks : List ℕ → List ℕ → ℕ → List (Bool × ℕ)
+liftChecks counts arity number = (noCalls counts, 6) ∷ (badNumber number, 7) ∷ (noRule arity number, 17) ∷ []

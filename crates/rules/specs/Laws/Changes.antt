@@ -1,30 +1,30 @@
 -- WHAT A PUT AND A LIFT LEAVE is the stepped ledger's, and their reports are right. Assumes nothing.
-use mathlib.Core.Path.{_≡_, refl, sym, ap, subst, _∙_}
+use mathlib.Core.Path.{_≡_, refl, sym, _∙_}
 use mathlib.Core.Bool.{Bool, true, false, true≢false, not}
 use mathlib.Core.List.{List}
 use mathlib.Core.Option.{Option, none, some}
 use Prim.Native.Nat.{ℕ, _+_, _*_, _%_, _<_}
 use native.Mathlib.Omega.{arith}
 use lib.ListN.{length, getD}
-use Rattle.model.specs.declared.value.Heads.{Heads}
-use Rattle.model.specs.declared.value.Draft.{Draft}
+use borrow.Author.Tests.{ltb-false}
 use Rattle.model.specs.declared.answer.Answer.{Answer}
 use Rattle.model.specs.declared.answer.Answer.the-variants as answer
 use Rattle.model.specs.declared.command.Command.the-variants as kind
-use Rattle.model.specs.Board.{GoodRule}
+use Rattle.model.specs.Board.{Board, GoodRule}
 use Rattle.model.specs.Tests.{isNone}
 use Rattle.model.specs.Ledger.{NumberedRule, Ledger, LedgerShape, draftOr, firstOf, notInForce, withRule, kindConditions, effect}
-use Rattle.model.specs.Report.{PutReport}
-use Rattle.model.specs.Representation.{Stored, Drafted, State, Represents, emptyDraft}
+use Rattle.model.specs.Report.{PutReport, LiftReport}
+use Rattle.model.specs.Representation.{Drafted, State, Represents, emptyDraft}
 use Rattle.model.specs.Promise.{KindPromise}
 use Rattle.model.specs.Laws.Shapes.{Passed, passed}
 use Rattle.model.specs.Laws.Fresh.{filled}
 use Rattle.change.specs.Rules.{withHeads, drafted-is}
 use Rattle.change.specs.Stored.{put-stored, put-struck, put-reopened}
-use Rattle.rules.specs.Checks.{putChecks}
-use Rattle.rules.specs.Changes.{putReport, rulesOf, BroughtIn}
+use Rattle.lift.specs.Stored.{LiftStored, lift-stored}
+use Rattle.rules.specs.Checks.{putChecks, liftChecks}
+use Rattle.rules.specs.Changes.{putReport, liftReport, rulesOf, BroughtIn, TakenOut}
 use Rattle.rules.specs.Laws.Promised.{promise-refused, promise-accepted}
-use Rattle.rules.specs.Laws.Checks.{put-checks-same}
+use Rattle.rules.specs.Laws.Checks.{put-checks-same, lift-checks-same}
 
 -- the empty draft is no draft
 pub empty-drafted : Drafted none emptyDraft
@@ -44,6 +44,11 @@ none-there : {A : Type 0} (o : Option A) → not (isNone o) ≡ false → o ≡ 
 none-there none e = refl
 none-there (some a) e = absurd (true≢false e)
 
+-- where the counts stay, the heads are those before with the rules' heads after
+heads-kept : (before after : State) → after .value .heads .counts ≡ before .value .heads .counts
+    → after .value .heads ≡ withHeads (before .value .heads) (rulesOf after)
+heads-kept before after e = rw (← e) refl
+
 -- KIND 4
 module _ (before : State) (ns : List ℕ) where
   abbrev checks : List (Bool × ℕ)
@@ -54,10 +59,6 @@ module _ (before : State) (ns : List ℕ) where
   put-refused n ne e = promise-refused before kind.Put ns n ne (λ L shape is. e ∙ put-checks-same L shape before is ns)
 
   module _ (given : Answer) (after : State) (done : BroughtIn before given after) where
-    -- the heads are those before with the rules' heads after
-    heads-kept : after .value .heads ≡ withHeads (before .value .heads) (rulesOf after)
-    heads-kept = rw (← done .counts) refl
-
     put-reports : length (before .slots) ≡ 1024 → PutReport (before .slots) (after .slots) (putReport (done .struck))
     put-reports size =
         record {
@@ -77,7 +78,7 @@ module _ (before : State) (ns : List ℕ) where
             let g = good d refl in
             let number : before .value .draft .number % 64 ≡ d .number = omega (arith, drafted .number, g .0) in
             record {
-              stored = rw heads-kept
+              stored = rw (heads-kept before after (done .counts))
                   (put-stored (L .board) (shape .board) (d .number) (g .0) (none-there (getD (L .board .rules) (d .number) none) free) (d .rule) (g .1) (drafted-is d (before .value .draft) drafted)
                   (before .value .heads) (before .rows) (before .killers) (before .slots) (is .stored) (rulesOf after) (rw number at (done .done)));
               drafted = rw (done .draft) empty-drafted;
@@ -92,4 +93,40 @@ module _ (before : State) (ns : List ℕ) where
           passes,
           put-reports (is .stored .slots-size),
           put-represents L shape is (passed (kindConditions L kind.Put ns) tt (sym passes)),
+        )))
+
+-- KIND 5
+module _ (n : ℕ) (before : State) (ns : List ℕ) where
+  pub lift-refused : (m : ℕ) → (m ≡ 0 → ⊥) → m ≡ firstOf (liftChecks (before .value .heads .counts) (before .value .heads .arity) n)
+      → KindPromise before (kind.Lift n) ns (answer.Refused m) before
+  lift-refused m ne e = promise-refused before (kind.Lift n) ns m ne (λ L shape is. e ∙ lift-checks-same L shape before is n ns)
+
+  module _ (given : Answer) (after : State) (done : TakenOut n before given after) where
+    lifted : (L : Ledger) → LedgerShape L → Represents L before → n < 64
+        → LiftStored (L .board) n (before .value .heads) (rulesOf after) (after .killers) (before .slots) (after .slots) (done .reopened) (done .touched)
+    lifted L shape is ln =
+        let number : n % 64 ≡ n = omega arith in
+        lift-stored (L .board) (shape .board) n ln (before .value .heads) (before .rows) (before .killers) (before .slots) (is .stored) (rw number at (done .done))
+
+    lift-reports : {B : Board} → LiftStored B n (before .value .heads) (rulesOf after) (after .killers) (before .slots) (after .slots) (done .reopened) (done .touched)
+        → LiftReport (before .slots) (after .slots) (liftReport (done .reopened) (done .touched))
+    lift-reports h =
+        record {
+          changed = record { struck = sym (h .none-struck); reopened = sym (h .reopened-is) };
+          none-struck = refl;
+          least = h .least;
+          most = h .most;
+        }
+
+    pub lift-accepted : 0 ≡ firstOf (liftChecks (before .value .heads .counts) (before .value .heads .arity) n) → KindPromise before (kind.Lift n) ns given after
+    lift-accepted e =
+        rw (done .answer-is)
+        (promise-accepted before (kind.Lift n) ns after (liftReport (done .reopened) (done .touched))
+        (λ L shape is.
+        let passes = e ∙ lift-checks-same L shape before is n ns in
+        let q = passed (kindConditions L (kind.Lift n) ns) tt (sym passes) in
+        let h = lifted L shape is (omega (arith, ltb-false 63 n (q .1 .0))) in (
+          passes,
+          lift-reports h,
+          record { stored = rw (heads-kept before after (done .counts)) (h .stored); drafted = rw (done .draft) (is .drafted) },
         )))

@@ -1,6 +1,6 @@
 -- ON A STATE THAT IS A LEDGER'S the checks over the bytes give the number of the table's first condition that holds. Assumes nothing.
-use mathlib.Core.Path.{_≡_, refl, sym, ap, _∙_}
-use mathlib.Core.Bool.{true, false, not, cond}
+use mathlib.Core.Path.{_≡_, refl, sym, _∙_}
+use mathlib.Core.Bool.{not}
 use mathlib.Core.List.{List, [], _∷_}
 use mathlib.Core.Logic.{⊎-elim}
 use mathlib.Core.Option.{Option, none, some}
@@ -8,16 +8,15 @@ use Prim.Native.Nat.{ℕ, _%_, _<_, _≤_}
 use native.Mathlib.Omega.{arith}
 use lib.ListN.{length, getD, List·getD-eq-default}
 use lib.Dec.{eqb}
-use borrow.Author.Tests.{eq-eqb, ne-eqb}
+use borrow.Author.Tests.{eq-eqb, ne-eqb, lt-ltb}
 use Rattle.tables.specs.Facts.{lt-or-le}
 use Rattle.model.specs.declared.value.Heads.{Heads}
-use Rattle.model.specs.declared.value.Draft.{Draft}
 use Rattle.model.specs.declared.command.Command.the-variants as kind
 use Rattle.model.specs.Board.{Rule, Board, GoodRule, Shape}
 use Rattle.model.specs.Tests.{isNone}
 use Rattle.model.specs.Ledger.{NumberedRule, Ledger, LedgerShape, draftOr, noBoard, notInForce, firstOf, kindConditions}
-use Rattle.model.specs.Representation.{ruleOr, Headed, Drafted, State, Represents}
-use Rattle.rules.specs.Checks.{noCalls, noRule, putChecks}
+use Rattle.model.specs.Representation.{ruleOr, Headed, State, Represents}
+use Rattle.rules.specs.Checks.{noCalls, noRule, putChecks, liftChecks}
 
 -- there is a board exactly where the first call has slots
 pub no-board-same : (B : Board) → Shape B → (heads : Heads) → Headed B heads → noCalls (heads .counts) ≡ eqb (length (B .counts)) 0
@@ -54,3 +53,13 @@ put-checks-same L shape s is ns =
         let g = good d refl in
         let least = g .1 .least in
         rw (ne-eqb (length (d .rule .calls)) 0 (λ e. omega arith), no-rule-same (L .board) (shape .board) (s .value .heads) (is .stored .headed) (d .number) (g .0)) refl
+
+-- KIND 5. A number over 63 is refused 7 before it is looked up
+pub lift-checks-same : (L : Ledger) → LedgerShape L → (s : State) → Represents L s → (n : ℕ) (ns : List ℕ)
+    → firstOf (liftChecks (s .value .heads .counts) (s .value .heads .arity) n) ≡ firstOf (kindConditions L (kind.Lift n) ns)
+lift-checks-same L shape s is n ns =
+    rw (no-board-same (L .board) (shape .board) (s .value .heads) (is .stored .headed))
+    (⊎-elim
+    (λ (h : 63 < n). rw (lt-ltb 63 n h) refl)
+    (λ (h : n ≤ 63). rw (no-rule-same (L .board) (shape .board) (s .value .heads) (is .stored .headed) n (omega arith)) refl)
+    (lt-or-le 63 n))

@@ -2,8 +2,8 @@
 use mathlib.Core.Path.{refl}
 use borrow.Author.Needs.{needs}
 use borrow.Author.Tests.{eq-eqb, ne-eqb}
-use Rattle.rules.proofs.put.check_put.Statement.{statement}
-use Rattle.rules.proofs.put.check_put.Tie as tie
+use Rattle.rules.proofs.into_force.check_put.Statement.{statement}
+use Rattle.rules.proofs.into_force.check_put.Tie as tie
 
 element-copy-out-if1 : tie.Need-element-copy-out-if1
 element-copy-out-if1 c = search needs

@@ -2,8 +2,8 @@
 use mathlib.Core.Path.{sym, _∙_}
 use borrow.Author.Needs.{needs}
 use Rattle.rules.specs.Laws.Changes.{put-refused, put-accepted}
-use Rattle.rules.proofs.put.put_draft.Statement.{statement}
-use Rattle.rules.proofs.put.put_draft.Tie as tie
+use Rattle.rules.proofs.into_force.put_draft.Statement.{statement}
+use Rattle.rules.proofs.into_force.put_draft.Tie as tie
 
 check-put-requires : tie.Need-check-put-requires
 check-put-requires c κs = search needs

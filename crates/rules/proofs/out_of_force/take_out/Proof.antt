@@ -1,15 +1,15 @@
--- The draft's number modulo 64 names a rule, and the tables of the heads have the lengths of their types, so the rule can be written.
+-- The number modulo 64 names a rule, and the tables of the heads have the lengths of their types, so the rule can be cleared.
 use borrow.Author.Needs.{needs}
 use Rattle.rules.specs.Laws.Fields.{field-size}
-use Rattle.rules.proofs.put.bring_in.Statement.{statement}
-use Rattle.rules.proofs.put.bring_in.Tie as tie
+use Rattle.rules.proofs.out_of_force.take_out.Statement.{statement}
+use Rattle.rules.proofs.out_of_force.take_out.Tie as tie
 
 cast-p : tie.Need-cast-p
 cast-p c = search needs
 
-put-requires : tie.Need-put-requires
-put-requires c κs =
-    let drafted = c .before .before .before .before .before .before .before .before .before .before .before in
+lift-requires : tie.Need-lift-requires
+lift-requires c κs =
+    let drafted = c .before .before .before .before .before .before in
     let start = drafted .before .before .before .before .before .before .before .before .before in
     let heads = start .args .value .heads in
     let sizes = start .good .0 .1 .1 .0 .1 .1 in (
@@ -23,9 +23,6 @@ put-requires c κs =
       },
     )
 
-empty-requires : tie.Need-empty-requires
-empty-requires c κs = search needs
-
 same-length : tie.Need-same-length
 same-length c = search needs
 
@@ -38,7 +35,7 @@ same-length-3 c = search needs
 returns : tie.Need-returns
 returns c = search needs
 
-pub bring-in-spec : {M : Type 1} → statement M
-bring-in-spec =
+pub take-out-spec : {M : Type 1} → statement M
+take-out-spec =
     tie.close
-    (tie.spec cast-p put-requires empty-requires same-length same-length-2 same-length-3 returns)
+    (tie.spec cast-p lift-requires same-length same-length-2 same-length-3 returns)
