@@ -1,0 +1,4 @@
+pub mod Fields
+pub mod Promised
+pub mod Checks
+pub mod Changes

@@ -1,0 +1,4 @@
+pub mod States
+pub mod Checks
+pub mod Changes
+pub mod Laws
