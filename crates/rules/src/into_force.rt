@@ -20,20 +20,22 @@ ghost use Rattle.rules.specs.Changes.{BroughtIn};
 pub fn check_put(counts: &[u8; 32], arity: &[u8; 64], number: u8, columns: u8) -> u8
     ensures { λ r. ⌜ r ≡ firstOf (putChecks (now (counts .entry)) (now (arity .entry)) number columns) ⌝ }
 {
-    if counts[0] == 0 {
+    let p = crate::number::place(number);
+    let first = counts[0];
+    let taken = arity[p];
+    if first == 0 {
         return 6;
     }
     if columns == 0 {
         return 12;
     }
-    let p = (number % 64) as usize;
-    if arity[p] != 0 {
+    if taken != 0 {
         return 16;
     }
     0
 }
 
-// The draft comes into force under its number, whatever stood there; a number over 63 is taken modulo 64.
+// The draft comes into force under its number, whatever stood there.
 pub fn bring_in(value: Value, rows: &mut [u8], killers: &mut [u8], slots: &mut [u8]) -> Outcome
     requires { ⌜ Sizes (now rows) (now killers) (now slots) ⌝ }
     ensures { λ r. ⌜ BroughtIn (stateOf value (now (rows .entry)) (now (killers .entry)) (now (slots .entry))) (r .answer) (stateOf (r .value) (now (rows .exit)) (now (killers .exit)) (now (slots .exit))) ⌝ }
@@ -46,7 +48,7 @@ pub fn bring_in(value: Value, rows: &mut [u8], killers: &mut [u8], slots: &mut [
     let draft = value.draft;
     let head = draft.calls;
     let body = draft.rows;
-    let p = (draft.number % 64) as usize;
+    let p = crate::number::place(draft.number);
     let struck = change::put(
         rows,
         killers,
@@ -60,6 +62,7 @@ pub fn bring_in(value: Value, rows: &mut [u8], killers: &mut [u8], slots: &mut [
         &head,
         &body,
     );
+    let none = Draft::empty();
     let report = Report {
         struck,
         reopened: 0,
@@ -73,10 +76,7 @@ pub fn bring_in(value: Value, rows: &mut [u8], killers: &mut [u8], slots: &mut [
     };
     Outcome {
         answer: Answer::Accepted(report),
-        value: Value {
-            heads,
-            draft: Draft::empty(),
-        },
+        value: Value { heads, draft: none },
     }
 }
 

@@ -2,5 +2,6 @@
 // one holds.
 // Proved: what each answers and leaves is what specs/Promise.antt of the crate model says; all of it is safe on any contents. Assumed: nothing.
 pub mod outcome; // a refusal
+pub mod number; // which rule a number names
 pub mod into_force; // kind 4
 pub mod out_of_force; // kind 5

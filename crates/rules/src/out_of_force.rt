@@ -19,20 +19,22 @@ ghost use Rattle.rules.specs.Changes.{TakenOut};
 pub fn check_lift(counts: &[u8; 32], arity: &[u8; 64], number: u8) -> u8
     ensures { λ r. ⌜ r ≡ firstOf (liftChecks (now (counts .entry)) (now (arity .entry)) number) ⌝ }
 {
-    if counts[0] == 0 {
+    let p = crate::number::place(number);
+    let first = counts[0];
+    let columns = arity[p];
+    if first == 0 {
         return 6;
     }
     if 63 < number {
         return 7;
     }
-    let p = (number % 64) as usize;
-    if arity[p] == 0 {
+    if columns == 0 {
         return 17;
     }
     0
 }
 
-// The rule under the number leaves force, whatever stands there; a number over 63 is taken modulo 64.
+// The rule under the number leaves force, whatever stands there.
 pub fn take_out(
     value: Value,
     number: u8,
@@ -49,7 +51,7 @@ pub fn take_out(
     let mut calls = heads.calls;
     let mut lengths = heads.lengths;
     let draft = value.draft;
-    let p = (number % 64) as usize;
+    let p = crate::number::place(number);
     let lifted = lift::lift(
         rows,
         killers,

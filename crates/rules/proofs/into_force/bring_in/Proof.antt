@@ -1,21 +1,24 @@
--- The draft's number modulo 64 names a rule, and the tables of the heads have the lengths of their types, so the rule can be written.
+-- The draft's number names a rule, and the tables of the heads have the lengths of their types, so the rule can be written.
+use mathlib.Core.Path.{refl}
+use native.Mathlib.Omega.{arith}
 use borrow.Author.Needs.{needs}
 use Rattle.rules.specs.Laws.Fields.{field-size}
 use Rattle.rules.proofs.into_force.bring_in.Statement.{statement}
 use Rattle.rules.proofs.into_force.bring_in.Tie as tie
 
-cast-p : tie.Need-cast-p
-cast-p c = search needs
+place-requires : tie.Need-place-requires
+place-requires c κs = search needs
 
 put-requires : tie.Need-put-requires
 put-requires c κs =
-    let drafted = c .before .before .before .before .before .before .before .before .before .before .before in
+    let placed = c .before .before .before .before .before .before .before .before in
+    let drafted = placed .before .before .before in
     let start = drafted .before .before .before .before .before .before .before .before .before in
     let heads = start .args .value .heads in
     let sizes = start .good .0 .1 .1 .0 .1 .1 in (
       start .pre,
       record {
-        number = search needs;
+        number = omega (arith, placed .place .ensures);
         rows-size = start .pre .rows-size;
         arity-size = field-size (heads .arity) (sizes .1 .0 .1 .0 .1);
         calls-size = field-size (heads .calls) (sizes .1 .1 .0 .1 .0 .1);
@@ -36,9 +39,19 @@ same-length-3 : tie.Need-same-length-3
 same-length-3 c = search needs
 
 returns : tie.Need-returns
-returns c = search needs
+returns c =
+    let written = c .before .before .before .before .before .before .before in
+    let placed = written .before .before .before .before .before .before .before .before .before in
+    record { struck = written .put .result; done = rw (← placed .place .ensures) (written .put .ensures); counts = refl; draft = c .empty .ensures; answer-is = refl }
 
 pub bring-in-spec : {M : Type 1} → statement M
 bring-in-spec =
     tie.close
-    (tie.spec cast-p put-requires empty-requires same-length same-length-2 same-length-3 returns)
+    (tie.spec
+    place-requires
+    put-requires
+    empty-requires
+    same-length
+    same-length-2
+    same-length-3
+    returns)

@@ -5,8 +5,14 @@ use borrow.Author.Tests.{eq-eqb, ne-eqb, lt-ltb, le-ltb}
 use Rattle.rules.proofs.out_of_force.check_lift.Statement.{statement}
 use Rattle.rules.proofs.out_of_force.check_lift.Tie as tie
 
-element-copy-out-if1 : tie.Need-element-copy-out-if1
-element-copy-out-if1 c = search needs
+place-requires : tie.Need-place-requires
+place-requires c κs = search needs
+
+element-copy-out-first : tie.Need-element-copy-out-first
+element-copy-out-first c = search needs
+
+element-copy-out-columns : tie.Need-element-copy-out-columns
+element-copy-out-columns c = search needs
 
 returns : tie.Need-returns
 returns c = rw (eq-eqb _ _ (c .if1 .taken)) refl
@@ -14,30 +20,24 @@ returns c = rw (eq-eqb _ _ (c .if1 .taken)) refl
 returns-2 : tie.Need-returns-2
 returns-2 c = rw (ne-eqb _ _ (c .before .if1 .left), lt-ltb _ _ (c .if2 .taken)) refl
 
-cast-p : tie.Need-cast-p
-cast-p c = search needs
-
-element-copy-out-if3 : tie.Need-element-copy-out-if3
-element-copy-out-if3 c = search needs
-
 returns-3 : tie.Need-returns-3
 returns-3 c =
-    let numbered = c .before .before in
-    rw (ne-eqb _ _ (numbered .before .if1 .left), le-ltb _ _ (numbered .if2 .left), eq-eqb _ _ (c .if3 .taken)) refl
+    let board = c .before .before in
+    rw (← board .before .before .before .place .ensures, ne-eqb _ _ (board .if1 .left), le-ltb _ _ (c .before .if2 .left), eq-eqb _ _ (c .if3 .taken)) refl
 
 returns-4 : tie.Need-returns-4
 returns-4 c =
-    let numbered = c .before .before in
-    rw (ne-eqb _ _ (numbered .before .if1 .left), le-ltb _ _ (numbered .if2 .left), ne-eqb _ _ (c .if3 .left)) refl
+    let board = c .before .before in
+    rw (← board .before .before .before .place .ensures, ne-eqb _ _ (board .if1 .left), le-ltb _ _ (c .before .if2 .left), ne-eqb _ _ (c .if3 .left)) refl
 
 pub check-lift-spec : {M : Type 1} → statement M
 check-lift-spec =
     tie.close
     (tie.spec
-    element-copy-out-if1
+    place-requires
+    element-copy-out-first
+    element-copy-out-columns
     returns
     returns-2
-    cast-p
-    element-copy-out-if3
     returns-3
     returns-4)

@@ -1,21 +1,23 @@
--- The number modulo 64 names a rule, and the tables of the heads have the lengths of their types, so the rule can be cleared.
+-- The number names a rule, and the tables of the heads have the lengths of their types, so the rule can be cleared.
+use mathlib.Core.Path.{refl}
+use native.Mathlib.Omega.{arith}
 use borrow.Author.Needs.{needs}
 use Rattle.rules.specs.Laws.Fields.{field-size}
 use Rattle.rules.proofs.out_of_force.take_out.Statement.{statement}
 use Rattle.rules.proofs.out_of_force.take_out.Tie as tie
 
-cast-p : tie.Need-cast-p
-cast-p c = search needs
+place-requires : tie.Need-place-requires
+place-requires c κs = search needs
 
 lift-requires : tie.Need-lift-requires
 lift-requires c κs =
-    let drafted = c .before .before .before .before .before .before in
-    let start = drafted .before .before .before .before .before .before .before .before .before in
+    let placed = c .before .before .before .before .before .before in
+    let start = placed .before .before .before .before .before .before .before .before .before .before in
     let heads = start .args .value .heads in
     let sizes = start .good .0 .1 .1 .0 .1 .1 in (
       start .pre,
       record {
-        number = search needs;
+        number = omega (arith, placed .place .ensures);
         rows-size = start .pre .rows-size;
         arity-size = field-size (heads .arity) (sizes .1 .0 .1 .0 .1);
         calls-size = field-size (heads .calls) (sizes .1 .1 .0 .1 .0 .1);
@@ -33,9 +35,11 @@ same-length-3 : tie.Need-same-length-3
 same-length-3 c = search needs
 
 returns : tie.Need-returns
-returns c = search needs
+returns c =
+    let lifted = c .before .before .before .before .before .before in
+    let placed = lifted .before .before .before .before .before .before .before in
+    record { reopened = lifted .lift .result .reopened; touched = lifted .lift .result .touched; done = rw (← placed .place .ensures) (lifted .lift .ensures); counts = refl; draft = refl; answer-is = refl }
 
 pub take-out-spec : {M : Type 1} → statement M
 take-out-spec =
-    tie.close
-    (tie.spec cast-p lift-requires same-length same-length-2 same-length-3 returns)
+    tie.close (tie.spec place-requires lift-requires same-length same-length-2 same-length-3 returns)
