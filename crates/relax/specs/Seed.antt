@@ -6,12 +6,17 @@ use mathlib.Core.Bool.{Bool, true, false}
 use Prim.Native.Nat.{ℕ}
 use Rattle.revise.specs.Queue.{IsFlagged}
 use Rattle.relax.specs.Touched.{Covers}
+use Rattle.relax.specs.Bounds.{MarkTables}
 use Rattle.relax.specs.Spread.{Blank, Adds}
 
 -- r says whether Q has a member
 pub record Finds (Q : ℕ → Type 0) (r : Bool) : Type 0 where
   pub found : r ≡ true → (j : ℕ) × Q j
   pub absent : r ≡ false → (j : ℕ) → Q j → ⊥
+
+-- the tables keep their lengths
+pub seed-tables : {Q : ℕ → Type 0} {r : ℕ} {old new flags after : List Bool} → MarkTables old flags → Adds Q r old new flags after → MarkTables new after
+seed-tables t a = record { marks-size = a .marks .len ∙ t .marks-size; flags-size = a .spread .flags-size ∙ t .flags-size }
 
 -- marks set among none are exactly those of Q, and the flagged calls cover them
 module _ {Q : ℕ → Type 0} {r : ℕ} {none marks flags after : List Bool} (blank : Blank none) (a : Adds Q r none marks flags after) where
