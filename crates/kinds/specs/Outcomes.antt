@@ -1,10 +1,8 @@
 -- The outcomes of kinds 1, 2 and 3, and what kinds 2 and 3, which touch no buffer, promise.
-use mathlib.Core.Path.{_≡_}
 use mathlib.Core.List.{List}
 use Prim.Native.Nat.{ℕ}
 use Rattle.model.specs.declared.value.Value.{Value}
 use Rattle.model.specs.declared.answer.Report.{Report}
-use Rattle.model.specs.declared.answer.Answer.{Answer}
 use Rattle.model.specs.declared.answer.Answer.the-variants as answer
 use Rattle.model.specs.declared.answer.Outcome.{Outcome}
 use Rattle.model.specs.declared.command.Command.{Command}

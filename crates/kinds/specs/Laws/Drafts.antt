@@ -1,10 +1,10 @@
 -- THE DRAFTS that kinds 2 and 3 leave are those of the stepped ledger. Assumes nothing.
 use mathlib.Core.Path.{_≡_, refl, sym, ap, _∙_}
-use mathlib.Core.Bool.{Bool, true, false, not, _&&_}
+use mathlib.Core.Bool.{false, not, _&&_}
 use mathlib.Core.List.{List, [], _∷_, _++_}
 use mathlib.Core.Logic.{_⊎_, inl, inr, ⊎-elim}
 use mathlib.Core.Option.{Option, some}
-use Prim.Native.Nat.{ℕ, zero, suc, _+_, _*_, _<_, _≤_, min}
+use Prim.Native.Nat.{ℕ, zero, suc, _+_, _*_, _<_, _≤_}
 use native.Mathlib.Nat.{eq-or-lt-of-le}
 use native.Mathlib.Omega.{arith}
 use lib.ListN.{length, getD, take, set, length-take, length-set, length-append, List·getD-append, List·getD-eq-default}
@@ -19,12 +19,12 @@ use Rattle.model.specs.declared.command.Row.{Row}
 use Rattle.model.specs.declared.command.Command.the-variants as kind
 use Rattle.model.specs.Board.{Rule, slotAt}
 use Rattle.model.specs.Commands.{callsOf, slotsOf}
-use Rattle.model.specs.Ledger.{NumberedRule, Ledger, LedgerShape, draftOr, firstOf, badSpare, kindConditions, effect}
-use Rattle.model.specs.Representation.{Drafted, Represents, emptyDraft}
+use Rattle.model.specs.Ledger.{NumberedRule, draftOr, firstOf, badSpare, kindConditions}
+use Rattle.model.specs.Representation.{Drafted}
 use Rattle.model.specs.Laws.Tests.{none-passes}
 use Rattle.model.specs.Laws.Shapes.{Passed, passed}
 use Rattle.model.specs.Laws.Fresh.{filled}
-use Rattle.kinds.specs.Outcomes.{stateOf, refusedWith, acceptedWith, DraftPromise}
+use Rattle.kinds.specs.Outcomes.{refusedWith, acceptedWith}
 use Rattle.kinds.specs.Fields.{headChecks, rowChecks}
 use Rattle.kinds.specs.Drafts.{draftOf, StartsDraft, stored, withRow, AddsRow}
 use Rattle.kinds.specs.Laws.Fields.{any-default, arity-most, draft-limits, head-checks-same, row-checks-same}

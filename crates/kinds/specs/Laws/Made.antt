@@ -1,6 +1,6 @@
 -- THE BOARD THAT KIND 1 MAKES: its value and bytes are those of a board without rules. Assumes nothing.
 use mathlib.Core.Path.{_≡_, refl, _∙_}
-use mathlib.Core.Bool.{Bool, true, false, cond}
+use mathlib.Core.Bool.{true, false, cond}
 use mathlib.Core.List.{List}
 use Prim.Native.Nat.{ℕ, _+_, _*_, _/_, _%_, _<_, _≤_}
 use native.Mathlib.Omega.{arith}
@@ -17,7 +17,7 @@ use Rattle.model.specs.Laws.Shapes.{effect-shape, shape-fresh}
 use Rattle.model.specs.Laws.Change.{on-range}
 use Rattle.model.specs.Laws.Fresh.{filled, bare-headed, bare-stored, fresh-represents}
 use Rattle.kinds.specs.Outcomes.{stateOf, silent}
-use Rattle.kinds.specs.Made.{slotByte, SlotsMade, Cleared, bareValue, MakesBoard}
+use Rattle.kinds.specs.Made.{slotByte, Cleared, bareValue, MakesBoard}
 use Rattle.kinds.specs.Laws.Counts.{counts-kept}
 
 slot-byte-at : (ns : List ℕ) (c s : ℕ) → s < 32 → slotByte ns (32 * c + s) ≡ cond (ltb s (getD ns c 0)) 255 254

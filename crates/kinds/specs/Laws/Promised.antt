@@ -1,5 +1,5 @@
 -- A KIND THAT ONLY WRITES THE DRAFT keeps its promise where its check gives the number of the first condition that holds. Assumes nothing.
-use mathlib.Core.Path.{_≡_, refl, sym}
+use mathlib.Core.Path.{_≡_, refl}
 use mathlib.Core.List.{List}
 use Prim.Native.Nat.{ℕ, zero, suc}
 use native.Mathlib.Omega.{arith}

@@ -1,5 +1,5 @@
 -- The loop has passed no bad count, and `ended` says whether a 0 is among those that it passed.
-use mathlib.Core.Path.{_≡_, sym, _∙_}
+use mathlib.Core.Path.{sym, _∙_}
 use Prim.Native.Nat.{_≤_, _-_}
 use native.Mathlib.Omega.{arith}
 use Rattle.kinds.specs.Laws.Counts.{GoodSoFar, good-none, good-more, good-all, bad-found}
