@@ -4,12 +4,11 @@ use mathlib.Core.Path.{_≡_, refl, sym, ap, subst, _∙_}
 use mathlib.Core.Bool.{Bool, true, false, _&&_, cond}
 use mathlib.Core.List.{List, [], _∷_, _++_}
 use mathlib.Core.Logic.{_⊎_, inl, inr}
-use Prim.Native.Nat.{ℕ, zero, suc, _+_}
+use Prim.Native.Nat.{ℕ, suc, _+_}
 use native.Mathlib.Omega.{arith}
 use lib.ListN.{length, getD}
 use lib.Dec.{T, ltb, leb}
 use borrow.Author.Tests.{ltb-true}
-use Rattle.model.specs.declared.answer.Report.{Report}
 use Rattle.model.specs.declared.answer.Answer.{Answer}
 use Rattle.model.specs.declared.answer.Answer.the-variants as answer
 use Rattle.model.specs.declared.command.Command.{Command}
@@ -17,9 +16,9 @@ use Rattle.model.specs.declared.command.Command.the-variants as kind
 use Rattle.model.specs.declared.command.Read.{Read}
 use Rattle.model.specs.declared.command.Read.the-variants as found
 use Rattle.model.specs.Commands.{isKind, bodyLength, commandAt, countsAt, without, readAt}
-use Rattle.model.specs.Ledger.{Ledger, LedgerShape, Lent, badLent, firstOf, formConditions, ownConditions, kindConditions, earlyConditions, conditions, refusal, obey, step}
+use Rattle.model.specs.Ledger.{Ledger, badLent, firstOf, formConditions, ownConditions, kindConditions, earlyConditions, refusal, obey, step}
 use Rattle.model.specs.Representation.{State, lentOf, Represents}
-use Rattle.model.specs.Promise.{numberOf, valuesOf, valuesAt, reportValues, ReportsOf, Answered, Obeyed, KindPromise, BoardMade, Promise}
+use Rattle.model.specs.Promise.{valuesAt, reportValues, ReportsOf, Answered, Obeyed, KindPromise, BoardMade, Promise}
 use Rattle.model.specs.Laws.Shapes.{positive}
 
 -- a number of the first part is that of the whole; and where the first part has none, the second decides
