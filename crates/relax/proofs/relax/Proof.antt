@@ -1,7 +1,6 @@
 -- The closure, the reopening, the enqueuing and the reviving: `relaxed` joins the four.
 use Rattle.relax.specs.Relaxed.{relaxed}
 use borrow.Author.Needs.{needs}
-use borrow.Author.Needs.{needs}
 use Rattle.relax.proofs.relax.Statement.{statement}
 use Rattle.relax.proofs.relax.Tie as tie
 
@@ -15,7 +14,9 @@ enqueue-requires : tie.Need-enqueue-requires
 enqueue-requires c κs = search needs
 
 revive-rules-requires : tie.Need-revive-rules-requires
-revive-rules-requires c κs = let a = c .before .before .before .before .before .before .before .before .before .before .before .before .before .before .before .before .before .before .before .before .before .before .pre .0 in record { rows-size = a .rows-size; killers-size = a .killers-size }
+revive-rules-requires c κs =
+    let a = c .before .before .before .before .before .before .before .before .before .before .before .before .before .before .before .before .before .before .before .before .before .before .pre .0 in
+    record { rows-size = a .rows-size; killers-size = a .killers-size }
 
 same-length : tie.Need-same-length
 same-length c = search needs
@@ -25,7 +26,11 @@ same-length-2 c = search needs
 
 returns : tie.Need-returns
 returns c =
-    relaxed _ _ _ (c .before .before .before .before .before .before .before .before .before .before .before .before .before .before .before .before .closure .ensures) (c .before .before .before .before .before .before .before .before .before .before .before .reopen-calls .ensures) (c .before .before .before .before .before .before .enqueue .ensures) (c .before .before .revive-rules .ensures)
+    relaxed _ _ _
+    (c .before .before .before .before .before .before .before .before .before .before .before .before .before .before .before .before .closure .ensures)
+    (c .before .before .before .before .before .before .before .before .before .before .before .reopen-calls .ensures)
+    (c .before .before .before .before .before .before .enqueue .ensures)
+    (c .before .before .revive-rules .ensures)
 
 pub relax-spec : {M : Type 1} → statement M
 relax-spec =

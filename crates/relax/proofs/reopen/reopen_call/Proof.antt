@@ -4,7 +4,6 @@ use native.Mathlib.Omega.{arith}
 use denote.Ref.{now}
 use Rattle.relax.specs.Reopen.{call-set, call-keep, call-skip}
 use borrow.Author.Needs.{needs}
-use borrow.Author.Needs.{needs}
 use Rattle.relax.proofs.reopen.reopen_call.Statement.{statement}
 use Rattle.relax.proofs.reopen.reopen_call.Tie as tie
 

@@ -2,7 +2,6 @@
 use native.Mathlib.Omega.{arith}
 use Rattle.relax.specs.Reopen.{reopens-set, reopens-keep}
 use borrow.Author.Needs.{needs}
-use borrow.Author.Needs.{needs}
 use Rattle.relax.proofs.reopen.reopen_slot.Statement.{statement}
 use Rattle.relax.proofs.reopen.reopen_slot.Tie as tie
 

@@ -3,7 +3,6 @@ use mathlib.Core.Path.{refl}
 use native.Mathlib.Omega.{arith}
 use Rattle.tables.specs.Sweep.{one-set, one-keep}
 use borrow.Author.Needs.{needs}
-use borrow.Author.Needs.{needs}
 use Rattle.relax.proofs.revive.revive_row.Statement.{statement}
 use Rattle.relax.proofs.revive.revive_row.Tie as tie
 

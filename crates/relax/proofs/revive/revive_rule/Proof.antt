@@ -1,7 +1,6 @@
 -- A pending rule's rows are treated, and another's are left.
 use Rattle.relax.specs.Revive.{rule-pending, rule-clear}
 use borrow.Author.Needs.{needs}
-use borrow.Author.Needs.{needs}
 use Rattle.relax.proofs.revive.revive_rule.Statement.{statement}
 use Rattle.relax.proofs.revive.revive_rule.Tie as tie
 
@@ -27,7 +26,10 @@ same-length : tie.Need-same-length
 same-length c = search needs
 
 returns : tie.Need-returns
-returns c = rule-pending _ _ _ _ (c .before .before .before .before .before .before .cap .ensures) (c .before .before .before .before .cap2 .ensures) (c .before .before .before .before .before .before .before .before .if1 .taken) (c .before .before .revive-rows .ensures)
+returns c =
+    let n = c .before .before .before .before .before .before .cap .ensures in
+    let m = c .before .before .before .before .cap2 .ensures in
+    rule-pending _ _ _ _ n m (c .before .before .before .before .before .before .before .before .if1 .taken) (c .before .before .revive-rows .ensures)
 
 returns-2 : tie.Need-returns-2
 returns-2 c = rule-clear _ _ _ _ _ (c .if1 .left)

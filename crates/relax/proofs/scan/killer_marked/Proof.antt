@@ -4,7 +4,6 @@ use Prim.Native.Nat.{_+_, _*_}
 use native.Mathlib.Omega.{arith}
 use Rattle.tables.specs.Facts.{true-false}
 use borrow.Author.Needs.{needs}
-use borrow.Author.Needs.{needs}
 use Rattle.relax.proofs.scan.killer_marked.Statement.{statement}
 use Rattle.relax.proofs.scan.killer_marked.Tie as tie
 

@@ -1,7 +1,6 @@
 -- The row is marked where its killer's slot is, and passed over where it is not.
 use Rattle.relax.specs.Scan.{scans-row, scans-skip}
 use borrow.Author.Needs.{needs}
-use borrow.Author.Needs.{needs}
 use Rattle.relax.proofs.scan.scan_row.Statement.{statement}
 use Rattle.relax.proofs.scan.scan_row.Tie as tie
 

@@ -1,7 +1,6 @@
 -- The numbers of columns and rows are the rule's.
 use Rattle.relax.specs.Scan.{scans-rule}
 use borrow.Author.Needs.{needs}
-use borrow.Author.Needs.{needs}
 use Rattle.relax.proofs.scan.scan_rule.Statement.{statement}
 use Rattle.relax.proofs.scan.scan_rule.Tie as tie
 

@@ -38,7 +38,9 @@ caused-on-requires : tie.Need-caused-on-requires Inv-loop μ-loop
 caused-on-requires c κs = search needs
 
 returns : tie.Need-returns Inv-loop μ-loop
-returns c = let x = c .before .caused-on .ensures .found (c .if1 .taken) in record { found = λ e. (x .0, (c .before .before .before .before .loop .k, omega arith, x .1)); absent = λ e. absurd (true-false refl e) }
+returns c =
+    let x = c .before .caused-on .ensures .found (c .if1 .taken) in
+    record { found = λ e. (x .0, (c .before .before .before .before .loop .k, omega arith, x .1)); absent = λ e. absurd (true-false refl e) }
 
 add-k : tie.Need-add-k Inv-loop μ-loop
 add-k c = search needs

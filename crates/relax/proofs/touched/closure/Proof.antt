@@ -22,7 +22,9 @@ next-pending-requires : tie.Need-next-pending-requires Inv-loop μ-loop
 next-pending-requires c κs = search needs
 
 loop-holds : tie.Need-loop-holds Inv-loop μ-loop
-loop-holds c = let a = c .before .before .before .before .before .before .before .before .pre in (c .next-pending .ensures, closing-none _ _ _ _ _ (a .1 .0) (a .1 .1 .0) (a .1 .1 .1) (c .before .before .enqueue .ensures))
+loop-holds c =
+    let a = c .before .before .before .before .before .before .before .before .pre in
+    (c .next-pending .ensures, closing-none _ _ _ _ _ (a .1 .0) (a .1 .1 .0) (a .1 .1 .1) (c .before .before .enqueue .ensures))
 
 expand-requires : tie.Need-expand-requires Inv-loop μ-loop
 expand-requires c κs =

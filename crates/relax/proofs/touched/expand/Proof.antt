@@ -2,7 +2,6 @@
 use native.Mathlib.Omega.{arith}
 use Rattle.relax.specs.Closure.{expanded-more, expanded-quiet}
 use borrow.Author.Needs.{needs}
-use borrow.Author.Needs.{needs}
 use Rattle.relax.proofs.touched.expand.Statement.{statement}
 use Rattle.relax.proofs.touched.expand.Tie as tie
 
