@@ -22,15 +22,15 @@ draftOf h = record { number = h .number; arity = h .arity; calls = callsOf h; le
 abbrev pub StartsDraft : Value → Head → Outcome → Type 0
 StartsDraft value h r = DraftPromise value (kind.Head h) r
 
--- a row's four slots stored from the place at on
-abbrev pub stored : List ℕ → ℕ → Row → List ℕ
-stored rows at w = set (set (set (set rows at (w .slot0)) (at + 1) (w .slot1)) (at + 2) (w .slot2)) (at + 3) (w .slot3)
+-- row bytes with a row's four slots from the place at on
+abbrev pub withSlots : List ℕ → ℕ → Row → List ℕ
+withSlots rows at w = set (set (set (set rows at (w .slot0)) (at + 1) (w .slot1)) (at + 2) (w .slot2)) (at + 3) (w .slot3)
 
 -- the draft with the row at its end; a draft of 64 rows stays as it is
 abbrev pub withRow : Draft → Row → Draft
 withRow d w =
     cond (leb (d .length) 63)
-    (record { number = d .number; arity = d .arity; calls = d .calls; length = d .length + 1; rows = stored (d .rows) (4 * d .length) w })
+    (record { number = d .number; arity = d .arity; calls = d .calls; length = d .length + 1; rows = withSlots (d .rows) (4 * d .length) w })
     d
 
 -- what kind 3 promises

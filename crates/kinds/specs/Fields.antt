@@ -15,6 +15,10 @@ use Rattle.model.specs.Ledger.{badSpare, badNumber}
 abbrev pub noCalls : List ℕ → Bool
 noCalls counts = eqb (getD counts 0 0) 0
 
+-- "8 arity not 1 to 4"
+abbrev pub badArity : ℕ → Bool
+badArity n = ltb n 1 || ltb 4 n
+
 -- "9 a call not on the board": one of the first n calls is 32 or more, or has no slots
 abbrev pub offBoard : List ℕ → ℕ → Bool
 offBoard counts x = leb 32 x || eqb (getD counts x 0) 0
@@ -28,10 +32,6 @@ callBefore calls k = some? k λ j. eqb (getD calls j 255) (getD calls k 255)
 
 abbrev pub callTwice : List ℕ → ℕ → Bool
 callTwice calls n = some? n (callBefore calls)
-
--- "8 arity not 1 to 4"
-abbrev pub badArity : ℕ → Bool
-badArity n = ltb n 1 || ltb 4 n
 
 -- KIND 2, in the table's order
 abbrev pub headChecks : List ℕ → Head → List (Bool × ℕ)

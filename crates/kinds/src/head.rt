@@ -9,7 +9,7 @@ ghost use Rattle.kinds.specs.Fields.{headChecks};
 ghost use Rattle.kinds.specs.Drafts.{draftOf, StartsDraft};
 
 // The number of the refusal, or 0 for none: 6, 7, 8, 9, 10, 11 in this order.
-pub fn check_head(counts: &[u8; 32], head: Head) -> u8
+fn check_head(counts: &[u8; 32], head: Head) -> u8
     ensures { λ r. ⌜ r ≡ firstOf (headChecks (now (counts .entry)) head) ⌝ }
 {
     if counts[0] == 0 {

@@ -9,7 +9,7 @@ ghost use Rattle.kinds.specs.Fields.{rowChecks};
 ghost use Rattle.kinds.specs.Drafts.{withRow, AddsRow};
 
 // The number of the refusal, or 0 for none: 6, 12, 13, 14, 11, 15 in this order.
-pub fn check_row(counts: &[u8; 32], draft: Draft, row: Row) -> u8
+fn check_row(counts: &[u8; 32], draft: Draft, row: Row) -> u8
     ensures { λ r. ⌜ r ≡ firstOf (rowChecks (now (counts .entry)) draft row) ⌝ }
 {
     if counts[0] == 0 {
@@ -40,7 +40,7 @@ pub fn check_row(counts: &[u8; 32], draft: Draft, row: Row) -> u8
 }
 
 // The draft with one row more. A draft of 64 rows, which the check refuses, stays as it is.
-pub fn with_row(draft: Draft, row: Row) -> Draft
+fn with_row(draft: Draft, row: Row) -> Draft
     ensures { λ r. ⌜ r ≡ withRow draft row ⌝ }
 {
     let n = draft.length;
@@ -66,7 +66,7 @@ pub fn push_row(draft: &mut Draft, row: Row)
 }
 
 // The draft that push_row leaves of a copy: whoever calls this one handles no reference.
-pub fn pushed(draft: Draft, row: Row) -> Draft
+fn pushed(draft: Draft, row: Row) -> Draft
     ensures { λ r. ⌜ r ≡ withRow draft row ⌝ }
 {
     let mut copy = draft;

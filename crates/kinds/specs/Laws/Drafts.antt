@@ -26,7 +26,7 @@ use Rattle.model.specs.Laws.Shapes.{Passed, passed}
 use Rattle.model.specs.Laws.Fresh.{filled}
 use Rattle.kinds.specs.Outcomes.{refusedWith, acceptedWith}
 use Rattle.kinds.specs.Fields.{headChecks, rowChecks}
-use Rattle.kinds.specs.Drafts.{draftOf, StartsDraft, stored, withRow, AddsRow}
+use Rattle.kinds.specs.Drafts.{draftOf, StartsDraft, withSlots, withRow, AddsRow}
 use Rattle.kinds.specs.Laws.Fields.{any-default, arity-most, draft-limits, head-checks-same, row-checks-same}
 use Rattle.kinds.specs.Laws.Promised.{promise-refused, promise-accepted}
 
@@ -57,15 +57,19 @@ head-drafted h most good =
       rows = λ w k lw lk. filled 256 255 .all (4 * w + k) (omega arith);
     }
 
+-- the value with another draft
+abbrev withDraft : Value → Draft → Value
+withDraft value d = record { heads = value .heads; draft = d }
+
 module _ (value : Value) (h : Head) where
   pub head-refused : (n : ℕ) → n ≡ firstOf (headChecks (value .heads .counts) h) → (n ≡ 0 → ⊥) → StartsDraft value h (refusedWith n value)
   head-refused n e ne =
       promise-refused value (kind.Head h) n ne
       (λ rows killers slots ns L shape is. e ∙ ap firstOf (head-checks-same L shape (value .heads) (is .stored .headed) h ns))
 
-  pub head-accepted : 0 ≡ firstOf (headChecks (value .heads .counts) h) → StartsDraft value h (acceptedWith (record { heads = value .heads; draft = draftOf h }))
+  pub head-accepted : 0 ≡ firstOf (headChecks (value .heads .counts) h) → StartsDraft value h (acceptedWith (withDraft value (draftOf h)))
   head-accepted e =
-      promise-accepted value (kind.Head h) (record { heads = value .heads; draft = draftOf h }) (λ x y. record { struck = refl; reopened = refl; touched = refl })
+      promise-accepted value (kind.Head h) (withDraft value (draftOf h)) (λ x y. record { struck = refl; reopened = refl; touched = refl })
       (λ rows killers slots ns L shape is. (
         e ∙ ap firstOf (head-checks-same L shape (value .heads) (is .stored .headed) h ns),
         record { stored = is .stored; drafted = head-drafted h (arity-most (h .arity) (good .1 .1 .0)) (good .1 .1 .1 .1 .1 .0) },
@@ -74,7 +78,7 @@ module _ (value : Value) (h : Head) where
       good : Passed (headChecks (value .heads .counts) h)
       good = passed (headChecks (value .heads .counts) h) tt (sym e)
 
--- KIND 3: four slots stored at a place are read there, and nowhere else
+-- KIND 3: four slots written at a place are read there, and the other bytes stay
 module _ (l : List ℕ) (at : ℕ) (w : Row) where
   abbrev one : List ℕ
   one = set l at (w .slot0)
@@ -85,32 +89,33 @@ module _ (l : List ℕ) (at : ℕ) (w : Row) where
   abbrev three : List ℕ
   three = set two (at + 2) (w .slot2)
 
-  stored-size : length (stored l at w) ≡ length l
-  stored-size = length-set three (at + 3) (w .slot3) ∙ length-set two (at + 2) (w .slot2) ∙ length-set one (at + 1) (w .slot1) ∙ length-set l at (w .slot0)
+  slots-size : length (withSlots l at w) ≡ length l
+  slots-size =
+      length-set three (at + 3) (w .slot3) ∙ length-set two (at + 2) (w .slot2) ∙ length-set one (at + 1) (w .slot1) ∙ length-set l at (w .slot0)
 
-  stored-other : (j : ℕ) → (j < at) ⊎ (at + 4 ≤ j) → getD (stored l at w) j 0 ≡ getD l j 0
-  stored-other j out =
+  slots-other : (j : ℕ) → (j < at) ⊎ (at + 4 ≤ j) → getD (withSlots l at w) j 0 ≡ getD l j 0
+  slots-other j out =
       getD-set-other three (at + 3) j (w .slot3) 0 (ne 3 (omega arith)) ∙ getD-set-other two (at + 2) j (w .slot2) 0 (ne 2 (omega arith))
       ∙ getD-set-other one (at + 1) j (w .slot1) 0 (ne 1 (omega arith)) ∙ getD-set-other l at j (w .slot0) 0 (λ e. ne 0 (omega arith) (omega arith))
     where
       ne : (i : ℕ) → i < 4 → j ≡ at + i → ⊥
       ne i h e = ⊎-elim (λ below. omega arith) (λ above. omega arith) out
 
-  stored-at : at + 4 ≤ length l → (k : ℕ) → k < 4 → getD (stored l at w) (at + k) 0 ≡ getD (slotsOf w) k 0
-  stored-at fits zero h =
+  slots-at : at + 4 ≤ length l → (k : ℕ) → k < 4 → getD (withSlots l at w) (at + k) 0 ≡ getD (slotsOf w) k 0
+  slots-at fits zero h =
       let e : at + 0 ≡ at = omega arith in
       rw e
       (getD-set-other three (at + 3) at (w .slot3) 0 (λ q. omega arith) ∙ getD-set-other two (at + 2) at (w .slot2) 0 (λ q. omega arith)
       ∙ getD-set-other one (at + 1) at (w .slot1) 0 (λ q. omega arith) ∙ getD-set-same l at (w .slot0) 0 (omega arith))
-  stored-at fits (suc zero) h =
+  slots-at fits (suc zero) h =
       getD-set-other three (at + 3) (at + 1) (w .slot3) 0 (λ q. omega arith) ∙ getD-set-other two (at + 2) (at + 1) (w .slot2) 0 (λ q. omega arith)
       ∙ getD-set-same one (at + 1) (w .slot1) 0 (omega (arith, length-set l at (w .slot0)))
-  stored-at fits (suc (suc zero)) h =
+  slots-at fits (suc (suc zero)) h =
       getD-set-other three (at + 3) (at + 2) (w .slot3) 0 (λ q. omega arith)
       ∙ getD-set-same two (at + 2) (w .slot2) 0 (omega (arith, length-set one (at + 1) (w .slot1), length-set l at (w .slot0)))
-  stored-at fits (suc (suc (suc zero))) h =
+  slots-at fits (suc (suc (suc zero))) h =
       getD-set-same three (at + 3) (w .slot3) 0 (omega (arith, length-set two (at + 2) (w .slot2), length-set one (at + 1) (w .slot1), length-set l at (w .slot0)))
-  stored-at fits (suc (suc (suc (suc k)))) h = absurd (omega arith)
+  slots-at fits (suc (suc (suc (suc k)))) h = absurd (omega arith)
 
 -- so the draft with a row more is the stepped ledger's
 module _ (o : Option NumberedRule) (draft : Draft) (w : Row) (d : Drafted o draft) (most : length (draftOr o .rule .calls) ≤ 4)
@@ -125,7 +130,7 @@ module _ (o : Option NumberedRule) (draft : Draft) (w : Row) (d : Drafted o draf
   longer = record { calls = r .calls; rows = r .rows ++ (new ∷ []) }
 
   abbrev bytes : List ℕ
-  bytes = stored (draft .rows) (4 * draft .length) w
+  bytes = withSlots (draft .rows) (4 * draft .length) w
 
   slots-along : {x y : List ℕ} (k : ℕ) → x ≡ y → getD x k 255 ≡ getD y k 255
   slots-along k e = rw e refl
@@ -135,14 +140,14 @@ module _ (o : Option NumberedRule) (draft : Draft) (w : Row) (d : Drafted o draf
     where
       before : v < length (r .rows) → getD bytes (4 * v + k) 0 ≡ slotAt longer v k
       before h =
-          stored-other (draft .rows) (4 * draft .length) w (4 * v + k) (inl (omega (arith, d .length-is)))
+          slots-other (draft .rows) (4 * draft .length) w (4 * v + k) (inl (omega (arith, d .length-is)))
           ∙ d .rows v k lv lk ∙ slots-along k (sym (List·getD-append (r .rows) (new ∷ []) [] v h))
 
       here : length (r .rows) ≡ v → getD bytes (4 * v + k) 0 ≡ slotAt longer v k
       here e =
           let n : v ≡ draft .length = omega (arith, d .length-is) in
           ap (λ (i : ℕ). getD bytes (4 * i + k) 0) n
-          ∙ stored-at (draft .rows) (4 * draft .length) w (omega (arith, d .length-is, d .rows-size)) k lk
+          ∙ slots-at (draft .rows) (4 * draft .length) w (omega (arith, d .length-is, d .rows-size)) k lk
           ∙ spare-same (length (r .calls)) (slotsOf w) refl good k lk
           ∙ slots-along k (sym (getD-append-seam (r .rows) new [] []) ∙ ap (λ (i : ℕ). getD (longer .rows) i []) e)
 
@@ -150,7 +155,7 @@ module _ (o : Option NumberedRule) (draft : Draft) (w : Row) (d : Drafted o draf
       after h =
           let past : length (r .rows) ≤ v = omega arith in
           let still : length (longer .rows) ≤ v = omega (arith, length-append (r .rows) (new ∷ [])) in
-          stored-other (draft .rows) (4 * draft .length) w (4 * v + k) (inr (omega (arith, d .length-is)))
+          slots-other (draft .rows) (4 * draft .length) w (4 * v + k) (inr (omega (arith, d .length-is)))
           ∙ d .rows v k lv lk ∙ slots-along k (List·getD-eq-default (r .rows) [] past ∙ sym (List·getD-eq-default (longer .rows) [] still))
 
   pub row-drafted : Drafted (some (record { number = draftOr o .number; rule = longer })) (withRow draft w)
@@ -158,7 +163,7 @@ module _ (o : Option NumberedRule) (draft : Draft) (w : Row) (d : Drafted o draf
       rw (le-leb (draft .length) 63 (omega (arith, d .length-is)))
       (record {
         calls-size = d .calls-size;
-        rows-size = stored-size (draft .rows) (4 * draft .length) w ∙ d .rows-size;
+        rows-size = slots-size (draft .rows) (4 * draft .length) w ∙ d .rows-size;
         number = d .number;
         arity = d .arity;
         calls = d .calls;
@@ -172,15 +177,12 @@ module _ (value : Value) (w : Row) where
       promise-refused value (kind.Row w) n ne
       (λ rows killers slots ns L shape is. e ∙ ap firstOf (row-checks-same L shape (value .heads) (is .stored .headed) (value .draft) (is .drafted) w ns))
 
-  pub row-accepted : 0 ≡ firstOf (rowChecks (value .heads .counts) (value .draft) w) → AddsRow value w (acceptedWith (record { heads = value .heads; draft = withRow (value .draft) w }))
+  pub row-accepted : 0 ≡ firstOf (rowChecks (value .heads .counts) (value .draft) w) → AddsRow value w (acceptedWith (withDraft value (withRow (value .draft) w)))
   row-accepted e =
-      promise-accepted value (kind.Row w) (record { heads = value .heads; draft = withRow (value .draft) w }) (λ x y. record { struck = refl; reopened = refl; touched = refl })
+      promise-accepted value (kind.Row w) (withDraft value (withRow (value .draft) w)) (λ x y. record { struck = refl; reopened = refl; touched = refl })
       (λ rows killers slots ns L shape is.
       let first = e ∙ ap firstOf (row-checks-same L shape (value .heads) (is .stored .headed) (value .draft) (is .drafted) w ns) in
-      let good = passed (kindConditions L (kind.Row w) ns) tt (sym first) in (
-        first,
-        record {
-          stored = is .stored;
-          drafted = row-drafted (L .draft) (value .draft) w (is .drafted) (draft-limits L shape .columns) (leb-false 64 (length (draftOr (L .draft) .rule .rows)) (good .1 .1 .0)) (good .1 .1 .1 .1 .0);
-        },
-      ))
+      let good = passed (kindConditions L (kind.Row w) ns) tt (sym first) in
+      let room = leb-false 64 (length (draftOr (L .draft) .rule .rows)) (good .1 .1 .0) in
+      let drafted = row-drafted (L .draft) (value .draft) w (is .drafted) (draft-limits L shape .columns) room (good .1 .1 .1 .1 .0) in
+      (first, record { stored = is .stored; drafted = drafted }))

@@ -77,6 +77,10 @@ head-checks-same L shape heads headed h ns =
     (λ k lk. off-board-same B (shape .board) heads headed (getD (callsOf h) k 255)) in
     rw (no-board-same B (shape .board) heads headed, calls) refl
 
+-- a draft is a rule that the board could have
+abbrev GoodDraft : List ℕ → Option NumberedRule → Type 0
+GoodDraft counts o = (d : NumberedRule) → o ≡ some d → (d .number < 64) × GoodRule counts (d .rule)
+
 -- the draft's rule, the empty one where there is no draft, has the limits of a good one
 pub record Limits (counts : List ℕ) (r : Rule) : Type 0 where
   pub columns : length (r .calls) ≤ 4
@@ -86,7 +90,7 @@ pub record Limits (counts : List ℕ) (r : Rule) : Type 0 where
 pub draft-limits : (L : Ledger) → LedgerShape L → Limits (L .board .counts) (draftOr (L .draft) .rule)
 draft-limits L shape = go (L .draft) (shape .draft)
   where
-    go : (o : Option NumberedRule) → ((d : NumberedRule) → o ≡ some d → (d .number < 64) × GoodRule (L .board .counts) (d .rule)) → Limits (L .board .counts) (draftOr o .rule)
+    go : (o : Option NumberedRule) → GoodDraft (L .board .counts) o → Limits (L .board .counts) (draftOr o .rule)
     go none good = record { columns = omega arith; calls = λ k h. absurd (omega arith); rows = omega arith }
     go (some d) good = let g = good d refl .1 in record { columns = g .most; calls = g .calls; rows = g .few }
 
@@ -94,14 +98,22 @@ draft-limits L shape = go (L .draft) (shape .draft)
 no-draft-same : (L : Ledger) → LedgerShape L → eqb (length (draftOr (L .draft) .rule .calls)) 0 ≡ isNone (L .draft)
 no-draft-same L shape = go (L .draft) (shape .draft)
   where
-    go : (o : Option NumberedRule) → ((d : NumberedRule) → o ≡ some d → (d .number < 64) × GoodRule (L .board .counts) (d .rule)) → eqb (length (draftOr o .rule .calls)) 0 ≡ isNone o
+    go : (o : Option NumberedRule) → GoodDraft (L .board .counts) o → eqb (length (draftOr o .rule .calls)) 0 ≡ isNone o
     go none good = refl
     go (some d) good = let least = good d refl .1 .least in ne-eqb (length (d .rule .calls)) 0 (λ e. omega arith)
 
 -- KIND 3
-module _ (L : Ledger) (shape : LedgerShape L) (heads : Heads) (headed : Headed (L .board) heads) (draft : Draft) (drafted : Drafted (L .draft) draft) (w : Row) where
+module _ (L : Ledger) (shape : LedgerShape L) (heads : Heads) (headed : Headed (L .board) heads) (draft : Draft) (drafted : Drafted (L .draft) draft)
+    (w : Row) where
   abbrev r : Rule
   r = draftOr (L .draft) .rule
+
+  -- the table's tests of column k, and of column k of row v
+  abbrev off? : ℕ → Bool
+  off? k = leb (getD (L .board .counts) (callAt r k) 0) (getD (slotsOf w) k 255)
+
+  abbrev alike? : ℕ → ℕ → Bool
+  alike? v k = eqb (slotAt r v k) (getD (slotsOf w) k 255)
 
   limits : Limits (L .board .counts) r
   limits = draft-limits L shape
@@ -110,22 +122,22 @@ module _ (L : Ledger) (shape : LedgerShape L) (heads : Heads) (headed : Headed (
   columns-same = omega (arith, drafted .arity, limits .columns)
 
   slots-same : slotOffCall (heads .counts) (draft .calls) (slotsOf w) (columnsOf (draft .arity))
-      ≡ some? (length (r .calls)) (λ k. leb (getD (L .board .counts) (callAt r k) 0) (getD (slotsOf w) k 255))
+      ≡ some? (length (r .calls)) off?
   slots-same =
       rw columns-same
-      (some-same (length (r .calls)) (offCall (heads .counts) (draft .calls) (slotsOf w)) (λ k. leb (getD (L .board .counts) (callAt r k) 0) (getD (slotsOf w) k 255))
+      (some-same (length (r .calls)) (offCall (heads .counts) (draft .calls) (slotsOf w)) off?
       (λ k h.
       let below = limits .calls k h in
       let call : getD (draft .calls) k 0 % 32 ≡ callAt r k = omega (arith, drafted .calls k (omega (arith, limits .columns)), shape .board .calls) in
       rw (call, headed .counts (callAt r k) (omega (arith, shape .board .calls))) refl))
 
   rows-same : rowInDraft (draft .rows) (slotsOf w) (columnsOf (draft .arity)) (draft .length)
-      ≡ some? (length (r .rows)) (λ v. every? (length (r .calls)) (λ k. eqb (slotAt r v k) (getD (slotsOf w) k 255)))
+      ≡ some? (length (r .rows)) (λ v. every? (length (r .calls)) (alike? v))
   rows-same =
       rw (columns-same, drafted .length-is)
-      (some-same (length (r .rows)) (sameRow (draft .rows) (slotsOf w) (length (r .calls))) (λ v. every? (length (r .calls)) (λ k. eqb (slotAt r v k) (getD (slotsOf w) k 255)))
+      (some-same (length (r .rows)) (sameRow (draft .rows) (slotsOf w) (length (r .calls))) (λ v. every? (length (r .calls)) (alike? v))
       (λ v lv.
-      every-same (length (r .calls)) (λ k. eqb (getD (draft .rows) (4 * v + k) 0) (getD (slotsOf w) k 255)) (λ k. eqb (slotAt r v k) (getD (slotsOf w) k 255))
+      every-same (length (r .calls)) (λ k. eqb (getD (draft .rows) (4 * v + k) 0) (getD (slotsOf w) k 255)) (alike? v)
       (λ k lk. rw (drafted .rows v k (omega (arith, limits .rows)) (omega (arith, limits .columns))) refl)))
 
   pub row-checks-same : (ns : List ℕ) → rowChecks (heads .counts) draft w ≡ kindConditions L (kind.Row w) ns
