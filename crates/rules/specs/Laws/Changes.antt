@@ -80,8 +80,8 @@ module _ (before : State) (ns : List ℕ) where
             let untaken = none-there (getD (L .board .rules) (d .number) none) free in
             record {
               stored = rw (heads-kept before after (done .counts))
-                  (put-stored (L .board) (shape .board) (d .number) (g .0) untaken (d .rule) (g .1) (drafted-is d (before .value .draft) drafted)
-                  (before .value .heads) (before .rows) (before .killers) (before .slots) (is .stored) (rulesOf after) (rw number at (done .done)));
+                  (put-stored (L .board) (shape .board) (d .number) (g .0) untaken (d .rule) (g .1)
+                  (drafted-is d (before .value .draft) drafted) (before .value .heads) (before .rows) (before .killers) (before .slots) (is .stored) (rulesOf after) (rw number at (done .done)));
               drafted = rw (done .draft) empty-drafted;
             }
 
