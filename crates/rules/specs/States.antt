@@ -1,4 +1,4 @@
--- The states before and after a command, and the outcome of a refusal.
+-- The states before and after a command, and its outcomes.
 use mathlib.Core.List.{List}
 use Prim.Native.Nat.{ℕ}
 use Rattle.model.specs.declared.value.Value.{Value}
@@ -12,3 +12,6 @@ stateOf value rows killers slots = record { value = value; rows = rows; killers 
 
 abbrev pub refusedWith : ℕ → Value → Outcome
 refusedWith n value = record { answer = answer.Refused n; value = value }
+
+abbrev pub acceptedWith : ℕ → ℕ → ℕ → Value → Outcome
+acceptedWith struck reopened touched value = record { answer = answer.Accepted (record { struck = struck; reopened = reopened; touched = touched }); value = value }

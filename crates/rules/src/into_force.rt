@@ -1,7 +1,5 @@
 // Kind 4: the draft comes into force, then there is none.
-use model::answer::Answer;
 use model::answer::Outcome;
-use model::answer::Report;
 use model::value::Draft;
 use model::value::Heads;
 use model::value::Value;
@@ -63,21 +61,13 @@ pub fn bring_in(value: Value, rows: &mut [u8], killers: &mut [u8], slots: &mut [
         &body,
     );
     let none = Draft::empty();
-    let report = Report {
-        struck,
-        reopened: 0,
-        touched: struck,
-    };
     let heads = Heads {
         counts,
         arity,
         calls,
         lengths,
     };
-    Outcome {
-        answer: Answer::Accepted(report),
-        value: Value { heads, draft: none },
-    }
+    crate::outcome::accepted(struck, 0, struck, Value { heads, draft: none })
 }
 
 pub fn put_draft(value: Value, rows: &mut [u8], killers: &mut [u8], slots: &mut [u8]) -> Outcome

@@ -1,7 +1,5 @@
 // Kind 5: a rule leaves force. The draft is untouched.
-use model::answer::Answer;
 use model::answer::Outcome;
-use model::answer::Report;
 use model::value::Heads;
 use model::value::Value;
 ghost use mathlib.Core.Path.{_≡_};
@@ -61,21 +59,13 @@ pub fn take_out(
         &mut lengths,
         p,
     );
-    let report = Report {
-        struck: 0,
-        reopened: lifted.reopened,
-        touched: lifted.touched,
-    };
     let heads = Heads {
         counts,
         arity,
         calls,
         lengths,
     };
-    Outcome {
-        answer: Answer::Accepted(report),
-        value: Value { heads, draft },
-    }
+    crate::outcome::accepted(0, lifted.reopened, lifted.touched, Value { heads, draft })
 }
 
 pub fn lift_rule(

@@ -70,17 +70,18 @@ module _ (before : State) (ns : List ℕ) where
     put-represents : (L : Ledger) → LedgerShape L → Represents L before → Passed (kindConditions L kind.Put ns) → Represents (effect L kind.Put ns) after
     put-represents L shape is q = go (L .draft) (is .drafted) (shape .draft) (q .1 .0) (q .1 .1 .0)
       where
-        go : (o : Option NumberedRule) → Drafted o (before .value .draft) → ((d : NumberedRule) → o ≡ some d → (d .number < 64) × GoodRule (L .board .counts) (d .rule))
-            → isNone o ≡ false → not (notInForce L (draftOr o .number)) ≡ false
+        go : (o : Option NumberedRule) → Drafted o (before .value .draft)
+            → ((d : NumberedRule) → o ≡ some d → (d .number < 64) × GoodRule (L .board .counts) (d .rule)) → isNone o ≡ false → not (notInForce L (draftOr o .number)) ≡ false
             → Represents (record { board = withRule (L .board) (draftOr o .number) (some (draftOr o .rule)); draft = none }) after
         go none drafted good some-draft free = absurd (true≢false some-draft)
         go (some d) drafted good some-draft free =
             let g = good d refl in
             let number : before .value .draft .number % 64 ≡ d .number = omega (arith, drafted .number, g .0) in
+            let untaken = none-there (getD (L .board .rules) (d .number) none) free in
             record {
               stored = rw (heads-kept before after (done .counts))
-                  (put-stored (L .board) (shape .board) (d .number) (g .0) (none-there (getD (L .board .rules) (d .number) none) free) (d .rule) (g .1) (drafted-is d (before .value .draft) drafted)
-                  (before .value .heads) (before .rows) (before .killers) (before .slots) (is .stored) (rulesOf after) (rw number at (done .done)));
+                  (put-stored (L .board) (shape .board) (d .number) (g .0) untaken (d .rule) (g .1)
+                  (drafted-is d (before .value .draft) drafted) (before .value .heads) (before .rows) (before .killers) (before .slots) (is .stored) (rulesOf after) (rw number at (done .done)));
               drafted = rw (done .draft) empty-drafted;
             }
 

@@ -29,6 +29,9 @@ put-requires c κs =
 empty-requires : tie.Need-empty-requires
 empty-requires c κs = search needs
 
+accepted-requires : tie.Need-accepted-requires
+accepted-requires c κs = search needs
+
 same-length : tie.Need-same-length
 same-length c = search needs
 
@@ -40,9 +43,17 @@ same-length-3 c = search needs
 
 returns : tie.Need-returns
 returns c =
-    let written = c .before .before .before .before .before .before .before in
+    let emptied = c .before in
+    let written = emptied .before .before .before .before .before .before .before in
     let placed = written .before .before .before .before .before .before .before .before .before in
-    record { struck = written .put .result; done = rw (← placed .place .ensures) (written .put .ensures); counts = refl; draft = c .empty .ensures; answer-is = refl }
+    rw (c .accepted .ensures)
+    (record {
+      struck = written .put .result;
+      done = rw (← placed .place .ensures) (written .put .ensures);
+      counts = refl;
+      draft = emptied .empty .ensures;
+      answer-is = refl;
+    })
 
 pub bring-in-spec : {M : Type 1} → statement M
 bring-in-spec =
@@ -51,6 +62,7 @@ bring-in-spec =
     place-requires
     put-requires
     empty-requires
+    accepted-requires
     same-length
     same-length-2
     same-length-3

@@ -25,6 +25,9 @@ lift-requires c κs =
       },
     )
 
+accepted-requires : tie.Need-accepted-requires
+accepted-requires c κs = search needs
+
 same-length : tie.Need-same-length
 same-length c = search needs
 
@@ -36,10 +39,18 @@ same-length-3 c = search needs
 
 returns : tie.Need-returns
 returns c =
-    let lifted = c .before .before .before .before .before .before in
+    let lifted = c .before .before .before .before .before .before .before in
     let placed = lifted .before .before .before .before .before .before .before in
-    record { reopened = lifted .lift .result .reopened; touched = lifted .lift .result .touched; done = rw (← placed .place .ensures) (lifted .lift .ensures); counts = refl; draft = refl; answer-is = refl }
+    rw (c .accepted .ensures)
+    (record {
+      reopened = lifted .lift .result .reopened;
+      touched = lifted .lift .result .touched;
+      done = rw (← placed .place .ensures) (lifted .lift .ensures);
+      counts = refl;
+      draft = refl;
+      answer-is = refl;
+    })
 
 pub take-out-spec : {M : Type 1} → statement M
 take-out-spec =
-    tie.close (tie.spec place-requires lift-requires same-length same-length-2 same-length-3 returns)
+    tie.close (tie.spec place-requires lift-requires accepted-requires same-length same-length-2 same-length-3 returns)
