@@ -70,6 +70,7 @@ pub fn bring_in(value: Value, rows: &mut [u8], killers: &mut [u8], slots: &mut [
     crate::outcome::accepted(struck, 0, struck, Value { heads, draft: none })
 }
 
+// The whole of kind 4: refused, and nothing is changed; or the draft is in force, and there is none left.
 pub fn put_draft(value: Value, rows: &mut [u8], killers: &mut [u8], slots: &mut [u8]) -> Outcome
     requires { ⌜ Sizes (now rows) (now killers) (now slots) ⌝ }
     ensures { λ r. ⌜ ((ns : List ℕ) → KindPromise (stateOf value (now (rows .entry)) (now (killers .entry)) (now (slots .entry))) kind.Put ns (r .answer) (stateOf (r .value) (now (rows .exit)) (now (killers .exit)) (now (slots .exit)))) ⌝ }

@@ -68,6 +68,7 @@ pub fn take_out(
     crate::outcome::accepted(0, lifted.reopened, lifted.touched, Value { heads, draft })
 }
 
+// The whole of kind 5: refused, and nothing is changed; or the rule is out of force.
 pub fn lift_rule(
     value: Value,
     number: u8,
