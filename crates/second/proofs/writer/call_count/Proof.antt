@@ -1,0 +1,46 @@
+-- The loop counts up to its end.
+use Prim.Native.Nat.{_≤_, _-_}
+use borrow.Author.Needs.{needs}
+use Rattle.second.proofs.writer.call_count.Statement.{statement}
+use Rattle.second.proofs.writer.call_count.Tie as tie
+
+abbrev Inv-loop : tie.InvT-loop
+Inv-loop counts c₀ c = c ≤ 32
+
+abbrev μ-loop : tie.MeasureT-loop
+μ-loop counts c₀ c = 32 - c
+
+loop-holds : tie.Need-loop-holds Inv-loop μ-loop
+loop-holds c = search needs
+
+array-read-if1 : tie.Need-array-read-if1 Inv-loop μ-loop
+array-read-if1 c = search needs
+
+returns : tie.Need-returns Inv-loop μ-loop
+returns c = search needs
+
+add-c : tie.Need-add-c Inv-loop μ-loop
+add-c c = search needs
+
+loop-less : tie.Need-loop-less Inv-loop μ-loop
+loop-less c = search needs
+
+loop-again : tie.Need-loop-again Inv-loop μ-loop
+loop-again c = search needs
+
+returns-2 : tie.Need-returns-2 Inv-loop μ-loop
+returns-2 c = search needs
+
+pub call-count-spec : {M : Type 1} → statement M
+call-count-spec =
+    tie.close
+    (tie.spec
+    Inv-loop
+    μ-loop
+    loop-holds
+    array-read-if1
+    returns
+    add-c
+    loop-less
+    loop-again
+    returns-2)

@@ -1,0 +1,186 @@
+// What a command answered and left, held to this program's own account. A difference has a number, which says what differed; 0 is none.
+use crate::ledger::Draft;
+use crate::ledger::Ledger;
+use crate::ledger::Rules;
+use crate::masks::Masks;
+use model::answer::Answer;
+use model::value::Heads;
+use model::value::Value;
+
+pub const REFUSAL: u8 = 1;
+
+pub const STRUCK: u8 = 2;
+
+pub const REOPENED: u8 = 3;
+
+pub const TOUCHED: u8 = 4;
+
+pub const VALUE: u8 = 5;
+
+pub const ROWS: u8 = 6;
+
+pub const WRITTEN: u8 = 7;
+
+pub const OPEN: u8 = 8;
+
+pub const CAUSE: u8 = 9;
+
+pub const KILLER: u8 = 10;
+
+pub const RING: u8 = 11;
+
+pub const SAMPLE: u8 = 12;
+
+// An answer as numbers: the refusal, 0 for accepted, and S, R and T.
+pub struct Told {
+    pub refusal: u8,
+    pub struck: usize,
+    pub reopened: usize,
+    pub touched: usize,
+}
+
+impl Told {
+    pub fn refused(n: u8) -> Told {
+        Told {
+            refusal: n,
+            struck: 0,
+            reopened: 0,
+            touched: 0,
+        }
+    }
+}
+
+// "Refused 0" is no answer of document 01's, and counts as 255.
+pub fn told_by(answer: Answer) -> Told {
+    match answer {
+        Answer::Accepted(report) => Told {
+            refusal: 0,
+            struck: report.struck,
+            reopened: report.reopened,
+            touched: report.touched,
+        },
+        Answer::Refused(n) => {
+            if n == 0 {
+                Told::refused(255)
+            } else {
+                Told::refused(n)
+            }
+        }
+    }
+}
+
+// Whether T keeps its limits; so many slots were struck before.
+fn touched_holds(told: Told, kind: u8, struck: usize) -> bool {
+    if kind == 4 {
+        return told.touched == told.struck;
+    }
+    if kind == 5 {
+        return (told.reopened <= told.touched) & (told.touched <= struck);
+    }
+    told.touched == 0
+}
+
+// The report of an accepted command: which slots were open before and are open after, and how many were struck before.
+fn report_difference(told: Told, kind: u8, before: Masks, after: Masks, struck: usize) -> u8 {
+    // a new board reports nothing
+    let from = if kind == 1 { after } else { before };
+    if told.struck != crate::masks::lost(from, after) {
+        return STRUCK;
+    }
+    if told.reopened != crate::masks::lost(after, from) {
+        return REOPENED;
+    }
+    if touched_holds(told, kind, struck) {
+        0
+    } else {
+        TOUCHED
+    }
+}
+
+// The answer to a command for which this refusal was due.
+pub fn answer_difference(
+    told: Told,
+    due: u8,
+    kind: u8,
+    before: Masks,
+    after: Masks,
+    struck: usize,
+) -> u8 {
+    if told.refusal != due {
+        return REFUSAL;
+    }
+    if due != 0 {
+        return 0;
+    }
+    report_difference(told, kind, before, after, struck)
+}
+
+// Whether the counts and the heads of the rules are the ledger's.
+fn heads_hold(heads: Heads, counts: [u8; 32], rules: Rules) -> bool {
+    let a = heads.counts;
+    let b = heads.arity;
+    let c = heads.lengths;
+    let d = heads.calls;
+    let arity = rules.arity;
+    let lengths = rules.lengths;
+    let calls = rules.calls;
+    crate::bytes::same(&a, &counts)
+        && crate::bytes::same(&b, &arity)
+        && crate::bytes::same(&c, &lengths)
+        && crate::bytes::same_words(&d, &calls)
+}
+
+// Whether the draft's head is the ledger's.
+fn draft_holds(draft: model::value::Draft, due: Draft) -> bool {
+    let calls = draft.calls;
+    let word = crate::word::pack(calls[0], calls[1], calls[2], calls[3]);
+    (draft.number == due.number)
+        & (draft.arity == due.arity)
+        & (draft.length == due.length)
+        & (word == due.calls)
+}
+
+// Whether the draft's rows are the ledger's.
+fn draft_rows_hold(draft: model::value::Draft, due: Draft) -> bool {
+    let rows = draft.rows;
+    let words = due.rows;
+    crate::bytes::same_words(&rows, &words)
+}
+
+// Whether the value beside the buffers is the ledger's.
+pub fn value_holds(value: Value, ledger: Ledger) -> bool {
+    let heads = value.heads;
+    let draft = value.draft;
+    let counts = ledger.counts;
+    let rules = ledger.rules;
+    let due = ledger.draft;
+    heads_hold(heads, counts, rules) && draft_holds(draft, due) && draft_rows_hold(draft, due)
+}
+
+// What differs in the slots, the causes and the killers.
+pub fn record_difference(
+    ledger: Ledger,
+    open: Masks,
+    table: &[u32],
+    killers: &[u8],
+    slots: &[u8],
+) -> u8 {
+    let counts = ledger.counts;
+    let rules = ledger.rules;
+    let all = crate::masks::all(counts);
+    if !crate::records::slots_hold(all, open, slots) {
+        return OPEN;
+    }
+    if !crate::records::causes_hold(rules, slots) {
+        return CAUSE;
+    }
+    if !crate::records::killers_hold(rules, open, table, killers) {
+        return KILLER;
+    }
+    let struck = crate::masks::lost(all, open);
+    if crate::records::no_ring(struck, rules, table, killers, slots) {
+        0
+    } else {
+        RING
+    }
+}

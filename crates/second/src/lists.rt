@@ -1,0 +1,251 @@
+// Lists of commands: the samples, and the random lists from seeds that are fixed here. Each is followed up to the first command after which something differs.
+use crate::random::Random;
+use crate::step::Run;
+use crate::tally::Tally;
+use crate::writer::Size;
+use crate::writer::Writer;
+use crate::writer::Written;
+
+// How many random lists there are, and the most commands of one.
+const LISTS: usize = 2400;
+
+const MOST: usize = 5600;
+
+// A list on its way.
+pub struct State {
+    // the number of the sample; 0 for a random list
+    pub sample: usize,
+    pub seed: u64,
+    pub writer: Writer,
+    pub run: Run,
+    pub tally: Tally,
+    // commands so far, and the last one's kind
+    pub place: usize,
+    pub kind: u8,
+}
+
+// Up to 4 calls of 4 slots and 8 rules, with many lifts.
+fn small(random: Random) -> Size {
+    let b = random.next();
+    let c = b.next();
+    let d = c.next();
+    Size {
+        calls: 1 + random.below(4) % 4,
+        slots: 1 + b.below(4) % 4,
+        numbers: 1 + c.below(8) % 8,
+        rows: 1 + d.below(16) % 16,
+        lifts: 32,
+        strikes: 32,
+        full: false,
+        commands: 80,
+    }
+}
+
+// Up to 12 calls of 12 slots and 24 rules.
+fn middle(random: Random) -> Size {
+    let b = random.next();
+    let c = b.next();
+    let d = c.next();
+    Size {
+        calls: 2 + random.below(11) % 11,
+        slots: 2 + b.below(11) % 11,
+        numbers: 1 + c.below(24) % 24,
+        rows: 1 + d.below(64) % 64,
+        lifts: 24,
+        strikes: 16,
+        full: false,
+        commands: 200,
+    }
+}
+
+// Any size.
+fn large(random: Random) -> Size {
+    let b = random.next();
+    let c = b.next();
+    let d = c.next();
+    Size {
+        calls: 1 + random.below(32) % 32,
+        slots: 1 + b.below(32) % 32,
+        numbers: 1 + c.below(64) % 64,
+        rows: 1 + d.below(64) % 64,
+        lifts: 24,
+        strikes: 8,
+        full: false,
+        commands: 700,
+    }
+}
+
+// 32 calls of 32 slots, 64 rules of 64 rows.
+fn full() -> Size {
+    Size {
+        calls: 32,
+        slots: 32,
+        numbers: 64,
+        rows: 64,
+        lifts: 2,
+        strikes: 4,
+        full: true,
+        commands: MOST,
+    }
+}
+
+// The size of a random list: of forty, 24 are small, 12 in the middle, 3 large and 1 is full.
+fn size(number: usize, random: Random) -> Size {
+    let n = number % 40;
+    if n < 24 {
+        return small(random);
+    }
+    if n < 36 {
+        return middle(random);
+    }
+    if n < 39 { large(random) } else { full() }
+}
+
+// The next command.
+fn next(state: State) -> Written {
+    let run = state.run;
+    if state.sample == 0 {
+        return crate::writer::next(state.writer, run.ledger);
+    }
+    let asked = crate::samples::command(state.sample, state.place);
+    state.writer.writes(asked.entry)
+}
+
+// The state after a command that was run.
+fn moved(state: State, writer: Writer, kind: u8, run: Run) -> State {
+    let tally = state.tally.with(kind, run);
+    State {
+        sample: state.sample,
+        seed: state.seed,
+        writer,
+        run,
+        tally,
+        place: state.place % 65536 + 1,
+        kind,
+    }
+}
+
+// One command.
+fn turn(
+    state: State,
+    rows: &mut [u8],
+    killers: &mut [u8],
+    slots: &mut [u8],
+    table: &mut [u32],
+) -> State {
+    let written = next(state);
+    let entry = written.entry;
+    let run = crate::step::step(state.run, entry, rows, killers, slots, table);
+    let run = crate::samples::held(run, state.sample, state.place);
+    moved(state, written.writer, entry.kind(), run)
+}
+
+// Whether nothing has differed yet, and there are more of n commands.
+fn goes_on(state: State, n: usize) -> bool {
+    let run = state.run;
+    (run.difference == 0) & (state.place < n)
+}
+
+// The first n commands.
+fn turns(
+    state: State,
+    n: usize,
+    rows: &mut [u8],
+    killers: &mut [u8],
+    slots: &mut [u8],
+    table: &mut [u32],
+) -> State {
+    let mut state = state;
+    for _ in 0..MOST {
+        if !goes_on(state, n) {
+            return state;
+        }
+        state = turn(state, rows, killers, slots, table);
+    }
+    state
+}
+
+// A list before its first command.
+fn started(tally: Tally, sample: usize, size: Size, seed: u64) -> State {
+    State {
+        sample,
+        seed,
+        writer: Writer::new(size, seed),
+        run: Run::fresh(),
+        tally,
+        place: 0,
+        kind: 0,
+    }
+}
+
+// The tally of a list at its end. The first few differences are printed.
+fn ended(state: State) -> Tally {
+    let run = state.run;
+    let tally = state.tally;
+    if run.difference != 0 && tally.differences < 10 {
+        crate::print::difference(state.sample, state.seed, state.place, state.kind, run);
+    }
+    tally.with_list(run.difference)
+}
+
+// One list, on a fresh board.
+fn list(
+    state: State,
+    n: usize,
+    rows: &mut [u8],
+    killers: &mut [u8],
+    slots: &mut [u8],
+    table: &mut [u32],
+) -> State {
+    crate::step::clear(rows, killers, slots, table);
+    turns(state, n, rows, killers, slots, table)
+}
+
+// One sample.
+fn sample(
+    tally: Tally,
+    number: usize,
+    rows: &mut [u8],
+    killers: &mut [u8],
+    slots: &mut [u8],
+    table: &mut [u32],
+) -> Tally {
+    let n = crate::samples::length(number);
+    let state = started(tally, number, full(), 0);
+    ended(list(state, n, rows, killers, slots, table))
+}
+
+// The three samples.
+pub fn samples(rows: &mut [u8], killers: &mut [u8], slots: &mut [u8], table: &mut [u32]) -> Tally {
+    let mut tally = Tally::none();
+    for i in 1..4 {
+        tally = sample(tally, i, rows, killers, slots, table);
+    }
+    tally
+}
+
+// One random list, from the seed that the random number is.
+fn random_list(
+    tally: Tally,
+    number: usize,
+    random: Random,
+    rows: &mut [u8],
+    killers: &mut [u8],
+    slots: &mut [u8],
+    table: &mut [u32],
+) -> Tally {
+    let size = size(number, random);
+    let state = started(tally, 0, size, random.word);
+    ended(list(state, size.commands, rows, killers, slots, table))
+}
+
+// The random lists.
+pub fn lists(rows: &mut [u8], killers: &mut [u8], slots: &mut [u8], table: &mut [u32]) -> Tally {
+    let mut tally = Tally::none();
+    let mut random = Random::new(1);
+    for i in 0..LISTS {
+        random = random.next();
+        tally = random_list(tally, i, random, rows, killers, slots, table);
+    }
+    tally
+}

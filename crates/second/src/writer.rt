@@ -1,0 +1,391 @@
+// The writer of random lists: the next command, from the ledger and a random number. Most rules are such that slots lose support through each other where one is
+// struck: their calls are neighbours in a circle, and their rows pair each slot with one or two others.
+use crate::bytes::wide;
+use crate::entry::Entry;
+use crate::ledger::Ledger;
+use crate::ledger::Rules;
+use crate::random::Random;
+use crate::word::column;
+ghost use Prim.Native.Nat.{_≤_, _<_};
+
+// What the lists of a size may reach.
+pub struct Size {
+    pub calls: usize,
+    pub slots: usize,
+    // rule numbers
+    pub numbers: usize,
+    // rows of a rule that has them at random
+    pub rows: usize,
+    // out of 64: how often a lift is next where there is no draft, and how often a rule is one that strikes
+    pub lifts: usize,
+    pub strikes: usize,
+    // whether every call has 32 slots, and every slot two rows
+    pub full: bool,
+    pub commands: usize,
+}
+
+// How the rows of the draft at hand are written.
+pub struct Plan {
+    // at random; else one row for each slot of the first call, or two, whose other slots lie so many further on
+    pub wild: bool,
+    pub two: bool,
+    pub shift: usize,
+    // rows tried, and to be tried
+    pub tried: usize,
+    pub rows: usize,
+}
+
+pub struct Writer {
+    pub random: Random,
+    pub size: Size,
+    pub plan: Plan,
+}
+
+pub struct Written {
+    pub entry: Entry,
+    pub writer: Writer,
+}
+
+impl Plan {
+    // Nothing to be written.
+    pub fn none() -> Plan {
+        Plan {
+            wild: false,
+            two: false,
+            shift: 0,
+            tried: 0,
+            rows: 0,
+        }
+    }
+
+    // One row more is tried.
+    fn next(mut self) -> Plan {
+        let n = self.tried;
+        self.tried = n % 1024 + 1;
+        self
+    }
+}
+
+impl Writer {
+    pub fn new(size: Size, seed: u64) -> Writer {
+        Writer {
+            random: Random::new(seed),
+            size,
+            plan: Plan::none(),
+        }
+    }
+
+    // The writer with the next random number.
+    pub fn next(mut self) -> Writer {
+        let random = self.random.next();
+        self.random = random;
+        self
+    }
+
+    // A random number below n.
+    pub fn below(self, n: usize) -> usize {
+        let random = self.random;
+        random.below(n)
+    }
+
+    // The writer with another plan.
+    fn with(mut self, plan: Plan) -> Writer {
+        self.plan = plan;
+        self
+    }
+
+    // A command, and the writer after it.
+    pub fn writes(self, entry: Entry) -> Written {
+        let writer = self;
+        Written { entry, writer }
+    }
+}
+
+// At least 1.
+fn positive(n: usize) -> usize
+    ensures { λ r. ⌜ 0 < r ⌝ }
+{
+    if n == 0 { 1 } else { n }
+}
+
+// a less b, or 0.
+fn less(a: usize, b: usize) -> usize
+    ensures { λ r. ⌜ r ≤ a ⌝ }
+{
+    if b < a { a - b } else { 0 }
+}
+
+// The column k times a number below 32.
+fn times(k: usize, n: usize) -> usize
+    ensures { λ r. ⌜ r ≤ 96 ⌝ }
+{
+    let n = n % 32;
+    match k {
+        0 => 0,
+        1 => n,
+        2 => 2 * n,
+        _ => 3 * n,
+    }
+}
+
+// The slot count of call c of a new board.
+fn count(size: Size, random: Random, c: usize) -> u8 {
+    if size.calls <= c {
+        return 0;
+    }
+    if size.full {
+        return 32;
+    }
+    (1 + random.below(size.slots) % 32) as u8
+}
+
+fn board(writer: Writer) -> Written {
+    let size = writer.size;
+    let mut random = writer.random;
+    let mut entry = Entry::new(1);
+    for c in 0..32 {
+        random = random.next();
+        entry = entry.with(c + 1, count(size, random, c));
+    }
+    writer.writes(entry)
+}
+
+// The number of calls of the board.
+fn call_count(counts: [u8; 32]) -> usize {
+    for c in 0..32 {
+        if counts[c] == 0 {
+            return c;
+        }
+    }
+    32
+}
+
+// From a number on, the first of n numbers that is in force, or that is not; where there is none, that number.
+fn find(rules: Rules, from: usize, n: usize, in_force: bool) -> u8 {
+    for i in 0..64 {
+        let r = ((from % 64 + i) % positive(n) % 64) as u8;
+        if rules.in_force(r) == in_force {
+            return r;
+        }
+    }
+    (from % 64) as u8
+}
+
+fn lift(writer: Writer, rules: Rules) -> Written {
+    let size = writer.size;
+    let number = find(rules, writer.below(size.numbers), size.numbers, true);
+    writer.writes(Entry::lift(number))
+}
+
+// The arity of a rule, mostly 2, but at most n.
+fn arity(writer: Writer, n: usize) -> usize {
+    let kind = writer.below(8);
+    let columns = match kind {
+        0 => 1,
+        5 | 6 => 3,
+        7 => 4,
+        _ => 2,
+    };
+    if columns <= n { columns } else { positive(n) }
+}
+
+// How far apart the calls of a rule lie in a circle of n: mostly neighbours, up or down.
+fn apart(writer: Writer, n: usize) -> usize {
+    let kind = writer.below(8);
+    if kind < 4 {
+        return 1;
+    }
+    if kind < 6 {
+        return less(n, 1);
+    }
+    writer.next().below(n)
+}
+
+// The call in column k; 255 past the columns.
+fn call(first: usize, apart: usize, n: usize, columns: usize, k: usize) -> u8 {
+    if columns <= k {
+        return 255;
+    }
+    ((first % 32 + times(k, apart)) % positive(n) % 32) as u8
+}
+
+// The calls of a rule, in one word.
+fn calls(writer: Writer, n: usize, columns: usize) -> u32 {
+    let first = writer.below(n);
+    let steps = apart(writer.next(), n);
+    crate::word::pack(
+        call(first, steps, n, columns, 0),
+        call(first, steps, n, columns, 1),
+        call(first, steps, n, columns, 2),
+        call(first, steps, n, columns, 3),
+    )
+}
+
+// The rows to be tried of those that give each of n slots one row or two: all, and sometimes one more or some fewer.
+fn row_count(writer: Writer, n: usize, two: bool, strikes: bool) -> usize {
+    let n = n % 33;
+    let whole = if two { 2 * n } else { n };
+    if strikes {
+        return less(whole, 1 + writer.below(whole) % 64);
+    }
+    if writer.below(8) == 0 {
+        n + n + 1
+    } else {
+        whole
+    }
+}
+
+// Whether a rule of so many columns is to strike something.
+fn strikes(writer: Writer, columns: usize) -> bool {
+    let size = writer.size;
+    (writer.below(64) < size.strikes) | (columns == 1)
+}
+
+// The plan of a rule of so many columns whose first call has n slots.
+fn planned(writer: Writer, n: usize, columns: usize) -> Plan {
+    let size = writer.size;
+    let strikes = strikes(writer, columns);
+    let b = writer.next();
+    let c = b.next();
+    let d = c.next();
+    let wild = strikes & (b.below(2) == 0);
+    let two = size.full | (c.below(2) == 0);
+    let rows = if wild {
+        d.below(size.rows)
+    } else {
+        row_count(d, n, two, strikes)
+    };
+    Plan {
+        wild,
+        two,
+        shift: d.next().below(3),
+        tried: 0,
+        rows,
+    }
+}
+
+// A number that is free, or now and then any.
+fn number(writer: Writer, rules: Rules) -> u8 {
+    let size = writer.size;
+    let from = writer.below(size.numbers);
+    if writer.next().below(8) == 0 {
+        (from % 64) as u8
+    } else {
+        find(rules, from, size.numbers, false)
+    }
+}
+
+fn head(writer: Writer, ledger: Ledger) -> Written {
+    let counts = ledger.counts;
+    let n = call_count(counts);
+    let columns = arity(writer, n);
+    let b = writer.next();
+    let on = calls(b, n, columns);
+    let c = b.next().next();
+    let entry = Entry::head(number(c, ledger.rules), (columns % 256) as u8, on);
+    let d = c.next().next();
+    let i = column(on, 0) % 32;
+    let plan = planned(d, wide(counts[i]), columns);
+    d.with(plan).writes(entry)
+}
+
+// The slot of n in column k of the next row: at random, or by the plan.
+fn slot(writer: Writer, n: usize, k: usize) -> u8 {
+    let plan = writer.plan;
+    let place = plan.tried % 256;
+    if plan.wild {
+        return (writer.below(n) % 32) as u8;
+    }
+    if plan.two {
+        let on = plan.shift % 32 + place % 2;
+        return ((place / 2 + times(k, on)) % positive(n) % 32) as u8;
+    }
+    ((place + times(k, plan.shift)) % positive(n) % 32) as u8
+}
+
+// The field in column k of the next row of the draft.
+fn field(writer: Writer, ledger: Ledger, k: usize) -> u8 {
+    let draft = ledger.draft;
+    let counts = ledger.counts;
+    if draft.arity as usize <= k {
+        return 255;
+    }
+    let i = column(draft.calls, k) % 32;
+    slot(writer, wide(counts[i]), k)
+}
+
+fn row(writer: Writer, ledger: Ledger) -> Written {
+    let b = writer.next();
+    let c = b.next();
+    let d = c.next();
+    let word = crate::word::pack(
+        field(writer, ledger, 0),
+        field(b, ledger, 1),
+        field(c, ledger, 2),
+        field(d, ledger, 3),
+    );
+    let plan = writer.plan;
+    d.with(plan.next()).writes(Entry::row(word))
+}
+
+// The draft is written: it is put. Where its number is in force that is lifted first, most of the time.
+fn put(writer: Writer, ledger: Ledger) -> Written {
+    let draft = ledger.draft;
+    let rules = ledger.rules;
+    if rules.in_force(draft.number) && writer.below(4) != 0 {
+        return writer.writes(Entry::lift(draft.number));
+    }
+    writer.writes(Entry::put())
+}
+
+// The next command where there is a draft.
+fn drafted(writer: Writer, ledger: Ledger) -> Written {
+    let plan = writer.plan;
+    if writer.below(64) == 0 {
+        return head(writer.next(), ledger);
+    }
+    if plan.tried < plan.rows {
+        row(writer.next(), ledger)
+    } else {
+        put(writer.next(), ledger)
+    }
+}
+
+// The next command where there is none.
+fn undrafted(writer: Writer, ledger: Ledger) -> Written {
+    let size = writer.size;
+    if writer.below(64) < size.lifts {
+        lift(writer.next(), ledger.rules)
+    } else {
+        head(writer.next(), ledger)
+    }
+}
+
+// The next command, without damage: a new board about once in a list.
+fn good(writer: Writer, ledger: Ledger) -> Written {
+    let size = writer.size;
+    let counts = ledger.counts;
+    let draft = ledger.draft;
+    let next = writer.next();
+    if counts[0] == 0 || writer.below(size.commands) == 0 {
+        return board(next);
+    }
+    if draft.arity == 0 {
+        undrafted(next, ledger)
+    } else {
+        drafted(next, ledger)
+    }
+}
+
+// The next command: one of eight is damaged.
+pub fn next(writer: Writer, ledger: Ledger) -> Written {
+    let made = good(writer.next(), ledger);
+    let entry = made.entry;
+    let writer = made.writer.next();
+    if writer.below(8) != 0 {
+        return writer.writes(entry);
+    }
+    let b = writer.next();
+    let damaged = crate::damage::damaged(entry, ledger.draft, b.random);
+    b.next().next().writes(damaged)
+}
