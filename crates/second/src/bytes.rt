@@ -1,9 +1,11 @@
-// Reads and writes of slices at any index, and slices of bytes compared with words and copied to them, four bytes to a word.
+// Reads and writes of slices at any index; slices compared, copied and filled. A word is made of four bytes.
 
+// The byte as a number.
 pub fn wide(b: u8) -> usize {
     b as usize
 }
 
+// The word as a number.
 pub fn wide_word(w: u32) -> usize {
     w as usize
 }

@@ -7,41 +7,54 @@ use model::answer::Answer;
 use model::value::Heads;
 use model::value::Value;
 
+// The number of the refusal.
 pub const REFUSAL: u8 = 1;
 
+// S.
 pub const STRUCK: u8 = 2;
 
+// R.
 pub const REOPENED: u8 = 3;
 
+// T is not within its limits.
 pub const TOUCHED: u8 = 4;
 
+// The value beside the buffers.
 pub const VALUE: u8 = 5;
 
+// The row bytes, or a byte past the end of a buffer.
 pub const ROWS: u8 = 6;
 
+// A killer or a slot that was to stay as it was.
 pub const WRITTEN: u8 = 7;
 
+// Which slots are open, struck and off the board.
 pub const OPEN: u8 = 8;
 
+// A cause that is not in force on its call.
 pub const CAUSE: u8 = 9;
 
+// A killer byte: not a struck slot of its row, or not 255 where it is to be.
 pub const KILLER: u8 = 10;
 
+// There is a ring.
 pub const RING: u8 = 11;
 
+// What a sample says.
 pub const SAMPLE: u8 = 12;
 
 // An answer as numbers: the refusal, 0 for accepted, and S, R and T.
-pub struct Told {
+pub struct Reply {
     pub refusal: u8,
     pub struck: usize,
     pub reopened: usize,
     pub touched: usize,
 }
 
-impl Told {
-    pub fn refused(n: u8) -> Told {
-        Told {
+impl Reply {
+    // A refusal reports nothing.
+    pub fn refused(n: u8) -> Reply {
+        Reply {
             refusal: n,
             struck: 0,
             reopened: 0,
@@ -50,10 +63,10 @@ impl Told {
     }
 }
 
-// "Refused 0" is no answer of document 01's, and counts as 255.
-pub fn told_by(answer: Answer) -> Told {
+// The numbers of an answer. "Refused 0" is none of document 01's, and counts as 255.
+pub fn reply_of(answer: Answer) -> Reply {
     match answer {
-        Answer::Accepted(report) => Told {
+        Answer::Accepted(report) => Reply {
             refusal: 0,
             struck: report.struck,
             reopened: report.reopened,
@@ -61,36 +74,36 @@ pub fn told_by(answer: Answer) -> Told {
         },
         Answer::Refused(n) => {
             if n == 0 {
-                Told::refused(255)
+                Reply::refused(255)
             } else {
-                Told::refused(n)
+                Reply::refused(n)
             }
         }
     }
 }
 
 // Whether T keeps its limits; so many slots were struck before.
-fn touched_holds(told: Told, kind: u8, struck: usize) -> bool {
+fn touched_holds(reply: Reply, kind: u8, struck: usize) -> bool {
     if kind == 4 {
-        return told.touched == told.struck;
+        return reply.touched == reply.struck;
     }
     if kind == 5 {
-        return (told.reopened <= told.touched) & (told.touched <= struck);
+        return (reply.reopened <= reply.touched) & (reply.touched <= struck);
     }
-    told.touched == 0
+    reply.touched == 0
 }
 
 // The report of an accepted command: which slots were open before and are open after, and how many were struck before.
-fn report_difference(told: Told, kind: u8, before: Masks, after: Masks, struck: usize) -> u8 {
+fn report_difference(reply: Reply, kind: u8, before: Masks, after: Masks, struck: usize) -> u8 {
     // a new board reports nothing
     let from = if kind == 1 { after } else { before };
-    if told.struck != crate::masks::lost(from, after) {
+    if reply.struck != crate::masks::lost(from, after) {
         return STRUCK;
     }
-    if told.reopened != crate::masks::lost(after, from) {
+    if reply.reopened != crate::masks::lost(after, from) {
         return REOPENED;
     }
-    if touched_holds(told, kind, struck) {
+    if touched_holds(reply, kind, struck) {
         0
     } else {
         TOUCHED
@@ -99,20 +112,20 @@ fn report_difference(told: Told, kind: u8, before: Masks, after: Masks, struck: 
 
 // The answer to a command for which this refusal was due.
 pub fn answer_difference(
-    told: Told,
+    reply: Reply,
     due: u8,
     kind: u8,
     before: Masks,
     after: Masks,
     struck: usize,
 ) -> u8 {
-    if told.refusal != due {
+    if reply.refusal != due {
         return REFUSAL;
     }
     if due != 0 {
         return 0;
     }
-    report_difference(told, kind, before, after, struck)
+    report_difference(reply, kind, before, after, struck)
 }
 
 // Whether the counts and the heads of the rules are the ledger's.

@@ -8,16 +8,17 @@ use crate::masks::bit;
 use crate::word::column;
 
 // A mask for each column of a rule.
-pub struct Columns {
+pub struct ColumnMasks {
     pub a: u32,
     pub b: u32,
     pub c: u32,
     pub d: u32,
 }
 
-impl Columns {
-    pub fn none() -> Columns {
-        Columns {
+impl ColumnMasks {
+    // No slot.
+    pub fn none() -> ColumnMasks {
+        ColumnMasks {
             a: 0,
             b: 0,
             c: 0,
@@ -26,8 +27,8 @@ impl Columns {
     }
 
     // The masks with the slots of a row.
-    pub fn with(self, row: u32) -> Columns {
-        Columns {
+    pub fn with(self, row: u32) -> ColumnMasks {
+        ColumnMasks {
             a: self.a | bit(column(row, 0)),
             b: self.b | bit(column(row, 1)),
             c: self.c | bit(column(row, 2)),
@@ -50,7 +51,8 @@ pub fn alive(set: Masks, rule: Rule, row: u32) -> bool {
     a & b & c & d
 }
 
-fn with_support(found: Columns, set: Masks, rule: Rule, row: u32) -> Columns {
+// The masks with the slots of a row, where all of them are in the set.
+fn with_support(found: ColumnMasks, set: Masks, rule: Rule, row: u32) -> ColumnMasks {
     if alive(set, rule, row) {
         found.with(row)
     } else {
@@ -59,8 +61,8 @@ fn with_support(found: Columns, set: Masks, rule: Rule, row: u32) -> Columns {
 }
 
 // The slots that stand in a row of the rule whose slots are all in the set.
-fn supported(set: Masks, rule: Rule, table: &[u32]) -> Columns {
-    let mut found = Columns::none();
+fn supported(set: Masks, rule: Rule, table: &[u32]) -> ColumnMasks {
+    let mut found = ColumnMasks::none();
     for w in 0..64 {
         if w < rule.length {
             let row = crate::bytes::word(table, 64 * (rule.number % 64) + w);

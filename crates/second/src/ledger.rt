@@ -1,6 +1,6 @@
 // The ledger of document 01, kept by this program's own code: slot counts, the rules in force, and the draft. The rows of the rules in force are in the first
 // 4,096 words of a table that is lent: row w of rule r at 64 * r + w, blank words elsewhere.
-use crate::entry::Entry;
+use crate::request::Request;
 use crate::word::BLANK;
 
 // The heads of the rules in force.
@@ -13,7 +13,7 @@ pub struct Rules {
     pub lengths: [u8; 64],
 }
 
-// The rule that is being written; an arity of 0 means that there is none.
+// The rule that is being written. An arity of 0 means that there is none.
 pub struct Draft {
     pub number: u8,
     pub arity: u8,
@@ -22,6 +22,7 @@ pub struct Draft {
     pub rows: [u32; 64],
 }
 
+// What all commands so far have left.
 pub struct Ledger {
     pub counts: [u8; 32],
     pub rules: Rules,
@@ -46,6 +47,7 @@ impl Rules {
         }
     }
 
+    // The head of one.
     pub fn rule(self, r: usize) -> Rule {
         let i = r % 64;
         Rule {
@@ -73,6 +75,7 @@ impl Rules {
 }
 
 impl Draft {
+    // No draft.
     pub fn none() -> Draft {
         Draft {
             number: 255,
@@ -107,20 +110,20 @@ impl Ledger {
 }
 
 // The 32 counts of a kind 1.
-pub fn counts_of(entry: Entry) -> [u8; 32] {
+pub fn counts_of(request: Request) -> [u8; 32] {
     let mut counts = [0u8; 32];
     for i in 0..32 {
-        counts[i] = entry.byte(i + 1);
+        counts[i] = request.byte(i + 1);
     }
     counts
 }
 
 // The draft that a kind 2 starts.
-fn draft_of(entry: Entry) -> Draft {
+fn draft_of(request: Request) -> Draft {
     Draft {
-        number: entry.byte(1),
-        arity: entry.byte(2),
-        calls: entry.word(3),
+        number: request.byte(1),
+        arity: request.byte(2),
+        calls: request.word(3),
         length: 0,
         rows: [BLANK; 64],
     }
@@ -162,10 +165,10 @@ fn after_lift(ledger: Ledger, number: u8, table: &mut [u32]) -> Ledger {
 }
 
 // Kind 1: a new board.
-fn after_board(entry: Entry, table: &mut [u32]) -> Ledger {
+fn after_board(request: Request, table: &mut [u32]) -> Ledger {
     crate::bytes::fill_words(table, BLANK);
     Ledger {
-        counts: counts_of(entry),
+        counts: counts_of(request),
         rules: Rules::none(),
         draft: Draft::none(),
     }
@@ -185,13 +188,13 @@ fn with_row(ledger: Ledger, row: u32) -> Ledger {
 }
 
 // The ledger after a command that is not refused.
-pub fn after(ledger: Ledger, entry: Entry, table: &mut [u32]) -> Ledger {
-    let kind = entry.kind();
+pub fn after(ledger: Ledger, request: Request, table: &mut [u32]) -> Ledger {
+    let kind = request.kind();
     match kind {
-        1 => after_board(entry, table),
-        2 => with_draft(ledger, draft_of(entry)),
-        3 => with_row(ledger, entry.word(1)),
+        1 => after_board(request, table),
+        2 => with_draft(ledger, draft_of(request)),
+        3 => with_row(ledger, request.word(1)),
         4 => after_put(ledger, table),
-        _ => after_lift(ledger, entry.byte(1), table),
+        _ => after_lift(ledger, request.byte(1), table),
     }
 }

@@ -6,13 +6,14 @@ use crate::writer::Size;
 use crate::writer::Writer;
 use crate::writer::Written;
 
-// How many random lists there are, and the most commands of one.
+// The random lists.
 const LISTS: usize = 2400;
 
-const MOST: usize = 5600;
+// The most commands of a list.
+const MOST: usize = 7000;
 
 // A list on its way.
-pub struct State {
+pub struct Progress {
     // the number of the sample; 0 for a random list
     pub sample: usize,
     pub seed: u64,
@@ -35,7 +36,8 @@ fn small(random: Random) -> Size {
         numbers: 1 + c.below(8) % 8,
         rows: 1 + d.below(16) % 16,
         lifts: 32,
-        strikes: 32,
+        gaps: 24,
+        wild: 16,
         full: false,
         commands: 80,
     }
@@ -52,7 +54,8 @@ fn middle(random: Random) -> Size {
         numbers: 1 + c.below(24) % 24,
         rows: 1 + d.below(64) % 64,
         lifts: 24,
-        strikes: 16,
+        gaps: 16,
+        wild: 6,
         full: false,
         commands: 200,
     }
@@ -69,7 +72,8 @@ fn large(random: Random) -> Size {
         numbers: 1 + c.below(64) % 64,
         rows: 1 + d.below(64) % 64,
         lifts: 24,
-        strikes: 8,
+        gaps: 12,
+        wild: 2,
         full: false,
         commands: 700,
     }
@@ -82,8 +86,9 @@ fn full() -> Size {
         slots: 32,
         numbers: 64,
         rows: 64,
-        lifts: 2,
-        strikes: 4,
+        lifts: 8,
+        gaps: 8,
+        wild: 1,
         full: true,
         commands: MOST,
     }
@@ -102,72 +107,72 @@ fn size(number: usize, random: Random) -> Size {
 }
 
 // The next command.
-fn next(state: State) -> Written {
-    let run = state.run;
-    if state.sample == 0 {
-        return crate::writer::next(state.writer, run.ledger);
+fn next(progress: Progress) -> Written {
+    let run = progress.run;
+    if progress.sample == 0 {
+        return crate::writer::next(progress.writer, run.ledger);
     }
-    let asked = crate::samples::command(state.sample, state.place);
-    state.writer.writes(asked.entry)
+    let expected = crate::samples::command(progress.sample, progress.place);
+    progress.writer.writes(expected.request)
 }
 
-// The state after a command that was run.
-fn moved(state: State, writer: Writer, kind: u8, run: Run) -> State {
-    let tally = state.tally.with(kind, run);
-    State {
-        sample: state.sample,
-        seed: state.seed,
+// The list after a command that was run.
+fn moved(progress: Progress, writer: Writer, kind: u8, run: Run) -> Progress {
+    let tally = progress.tally.with(kind, run);
+    Progress {
+        sample: progress.sample,
+        seed: progress.seed,
         writer,
         run,
         tally,
-        place: state.place % 65536 + 1,
+        place: progress.place % 65536 + 1,
         kind,
     }
 }
 
 // One command.
 fn turn(
-    state: State,
+    progress: Progress,
     rows: &mut [u8],
     killers: &mut [u8],
     slots: &mut [u8],
     table: &mut [u32],
-) -> State {
-    let written = next(state);
-    let entry = written.entry;
-    let run = crate::step::step(state.run, entry, rows, killers, slots, table);
-    let run = crate::samples::held(run, state.sample, state.place);
-    moved(state, written.writer, entry.kind(), run)
+) -> Progress {
+    let written = next(progress);
+    let request = written.request;
+    let run = crate::step::step(progress.run, request, rows, killers, slots, table);
+    let run = crate::samples::held(run, progress.sample, progress.place);
+    moved(progress, written.writer, request.kind(), run)
 }
 
 // Whether nothing has differed yet, and there are more of n commands.
-fn goes_on(state: State, n: usize) -> bool {
-    let run = state.run;
-    (run.difference == 0) & (state.place < n)
+fn goes_on(progress: Progress, n: usize) -> bool {
+    let run = progress.run;
+    (run.difference == 0) & (progress.place < n)
 }
 
 // The first n commands.
 fn turns(
-    state: State,
+    progress: Progress,
     n: usize,
     rows: &mut [u8],
     killers: &mut [u8],
     slots: &mut [u8],
     table: &mut [u32],
-) -> State {
-    let mut state = state;
+) -> Progress {
+    let mut progress = progress;
     for _ in 0..MOST {
-        if !goes_on(state, n) {
-            return state;
+        if !goes_on(progress, n) {
+            return progress;
         }
-        state = turn(state, rows, killers, slots, table);
+        progress = turn(progress, rows, killers, slots, table);
     }
-    state
+    progress
 }
 
 // A list before its first command.
-fn started(tally: Tally, sample: usize, size: Size, seed: u64) -> State {
-    State {
+fn started(tally: Tally, sample: usize, size: Size, seed: u64) -> Progress {
+    Progress {
         sample,
         seed,
         writer: Writer::new(size, seed),
@@ -179,26 +184,32 @@ fn started(tally: Tally, sample: usize, size: Size, seed: u64) -> State {
 }
 
 // The tally of a list at its end. The first few differences are printed.
-fn ended(state: State) -> Tally {
-    let run = state.run;
-    let tally = state.tally;
+fn ended(progress: Progress) -> Tally {
+    let run = progress.run;
+    let tally = progress.tally;
     if run.difference != 0 && tally.differences < 10 {
-        crate::print::difference(state.sample, state.seed, state.place, state.kind, run);
+        crate::print::difference(
+            progress.sample,
+            progress.seed,
+            progress.place,
+            progress.kind,
+            run,
+        );
     }
     tally.with_list(run.difference)
 }
 
 // One list, on a fresh board.
 fn list(
-    state: State,
+    progress: Progress,
     n: usize,
     rows: &mut [u8],
     killers: &mut [u8],
     slots: &mut [u8],
     table: &mut [u32],
-) -> State {
+) -> Progress {
     crate::step::clear(rows, killers, slots, table);
-    turns(state, n, rows, killers, slots, table)
+    turns(progress, n, rows, killers, slots, table)
 }
 
 // One sample.
@@ -211,8 +222,9 @@ fn sample(
     table: &mut [u32],
 ) -> Tally {
     let n = crate::samples::length(number);
-    let state = started(tally, number, full(), 0);
-    ended(list(state, n, rows, killers, slots, table))
+    // a sample has no seed, and its writer writes nothing
+    let progress = started(tally, number, full(), 0);
+    ended(list(progress, n, rows, killers, slots, table))
 }
 
 // The three samples.
@@ -235,8 +247,8 @@ fn random_list(
     table: &mut [u32],
 ) -> Tally {
     let size = size(number, random);
-    let state = started(tally, 0, size, random.word);
-    ended(list(state, size.commands, rows, killers, slots, table))
+    let progress = started(tally, 0, size, random.word);
+    ended(list(progress, size.commands, rows, killers, slots, table))
 }
 
 // The random lists.

@@ -5,15 +5,17 @@ pub struct Masks {
 }
 
 impl Masks {
+    // No slot.
     pub fn none() -> Masks {
         Masks { calls: [0; 32] }
     }
 
-    // The slots of four calls.
+    // The slots of the first four calls, and none of the others.
     pub fn of_four(a: u32, b: u32, c: u32, d: u32) -> Masks {
         Masks::none().with(0, a).with(1, b).with(2, c).with(3, d)
     }
 
+    // The mask of a call.
     pub fn of(self, call: usize) -> u32 {
         let i = call % 32;
         self.calls[i]
@@ -26,11 +28,13 @@ impl Masks {
         self
     }
 
+    // Whether the slot is in the set.
     pub fn has(self, call: usize, slot: usize) -> bool {
         self.of(call) & bit(slot) != 0
     }
 }
 
+// The mask of one slot.
 pub fn bit(slot: usize) -> u32 {
     1u32 << ((slot % 32) as u32)
 }
@@ -56,6 +60,7 @@ pub fn all(counts: [u8; 32]) -> Masks {
     masks
 }
 
+// How many slots a mask has.
 fn ones(mask: u32) -> usize {
     crate::bytes::wide_word(u32::count_ones(mask))
 }

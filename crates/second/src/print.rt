@@ -1,8 +1,12 @@
-// What the program writes.
+// What the program writes: the first few differences, and what the lists held.
 use crate::step::Run;
+use crate::tally::ARITIES;
+use crate::tally::KINDS;
+use crate::tally::REFUSALS;
 use crate::tally::Tally;
 use libc::STDOUT_FILENO;
 
+// Some text.
 fn text(s: &[u8]) {
     io::write_all(STDOUT_FILENO, s);
 }
@@ -13,7 +17,7 @@ fn number(s: &[u8], n: usize) {
     io::print_decimal(STDOUT_FILENO, n as u64);
 }
 
-// What differed, in words.
+// What differed, by the numbers of compare.rt.
 fn name(difference: u8) {
     match difference {
         1 => text(b"the refusal"),
@@ -59,6 +63,7 @@ fn ran(tally: Tally) {
     text(b"\n");
 }
 
+// The report on the samples.
 pub fn samples(tally: Tally) {
     text(b"samples");
     ran(tally);
@@ -66,49 +71,61 @@ pub fn samples(tally: Tally) {
 
 // How many commands were accepted, by kind.
 fn accepted(tally: Tally) {
-    number(b"accepted: board ", tally.accepted[1]);
-    number(b", head ", tally.accepted[2]);
-    number(b", row ", tally.accepted[3]);
-    number(b", put ", tally.accepted[4]);
-    number(b", lift ", tally.accepted[5]);
+    number(b"accepted: board ", tally.count(KINDS + 1));
+    number(b", head ", tally.count(KINDS + 2));
+    number(b", row ", tally.count(KINDS + 3));
+    number(b", put ", tally.count(KINDS + 4));
+    number(b", lift ", tally.count(KINDS + 5));
     text(b"\n");
 }
 
-// How many were refused under one number. Number 2 is a file's alone.
+// How many of the heads were of each arity.
+fn arities(tally: Tally) {
+    number(b"heads of arity 1: ", tally.count(ARITIES + 1));
+    number(b", 2: ", tally.count(ARITIES + 2));
+    number(b", 3: ", tally.count(ARITIES + 3));
+    number(b", 4: ", tally.count(ARITIES + 4));
+    text(b"\n");
+}
+
+// How many were refused under a number. Number 2 is a file's alone.
 fn refused_under(n: usize, times: usize) {
-    if n == 2 {
-        return;
+    if n != 2 {
+        number(b" ", n);
+        number(b": ", times);
     }
-    number(b" ", n);
-    number(b": ", times);
 }
 
+// How many commands were refused, by number.
 fn refused(tally: Tally) {
-    text(b"refused, by number:");
-    let refused = tally.refused;
+    text(b"refused under");
     for n in 1..18 {
-        refused_under(n, refused[n]);
+        refused_under(n, tally.count(REFUSALS + n));
     }
     text(b"\n");
 }
 
+// What was struck and reopened.
 fn slots(tally: Tally) {
-    number(b"slots: struck ", tally.struck);
+    number(b"slots struck ", tally.struck);
     number(b", reopened ", tally.reopened);
     number(b", touched by lifts ", tally.touched);
     text(b"\n");
 }
 
+// The largest boards.
 fn most(tally: Tally) {
-    number(b"most at once: rules in force ", tally.most_rules);
-    number(b", rows of a rule ", tally.most_rows);
+    number(b"most rules in force ", tally.most_rules);
+    number(b", most rows of a rule ", tally.most_rows);
     text(b"\n");
 }
 
+// The report on the random lists.
 pub fn lists(tally: Tally) {
     text(b"lists");
     ran(tally);
     accepted(tally);
+    arities(tally);
     refused(tally);
     slots(tally);
     most(tally);

@@ -1,5 +1,6 @@
 // Numbers that look random, the same ones for the same seed: the xorshift generator of 64 bits, with the shifts 13, 7 and 17.
 
+// The generator: its last number.
 pub struct Random {
     pub word: u64,
 }
@@ -14,6 +15,7 @@ impl Random {
         }
     }
 
+    // The next number.
     pub fn next(self) -> Random {
         let a = self.word ^ (self.word << 13);
         let b = a ^ (a >> 7);

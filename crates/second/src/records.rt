@@ -1,6 +1,6 @@
 // The recorded causes and killers, held by themselves to document 01: a cause is in force on its call, a killer is a struck slot of its row, and there is no ring.
 // Each function answers whether that holds, of lent bytes and of this program's own ledger and open slots.
-use crate::filter::Columns;
+use crate::filter::ColumnMasks;
 use crate::filter::alive;
 use crate::ledger::Rule;
 use crate::ledger::Rules;
@@ -85,7 +85,7 @@ pub fn killers_hold(rules: Rules, open: Masks, table: &[u32], killers: &[u8]) ->
 }
 
 // The masks with a row's slots, unless its killer is in the set.
-fn with_loose(found: Columns, set: Masks, rule: Rule, row: u32, killer: u8) -> Columns {
+fn with_loose(found: ColumnMasks, set: Masks, rule: Rule, row: u32, killer: u8) -> ColumnMasks {
     let k = killer as usize;
     if k < rule.arity && set.has(column(rule.calls, k), column(row, k)) {
         found
@@ -95,8 +95,8 @@ fn with_loose(found: Columns, set: Masks, rule: Rule, row: u32, killer: u8) -> C
 }
 
 // The slots that stand in a row of the rule whose killer is not in the set.
-fn loose(set: Masks, rule: Rule, table: &[u32], killers: &[u8]) -> Columns {
-    let mut found = Columns::none();
+fn loose(set: Masks, rule: Rule, table: &[u32], killers: &[u8]) -> ColumnMasks {
+    let mut found = ColumnMasks::none();
     for w in 0..64 {
         if w < rule.length {
             let i = 64 * (rule.number % 64) + w;
@@ -162,7 +162,7 @@ fn grounded(rules: Rules, table: &[u32], killers: &[u8], slots: &[u8]) -> Masks 
     set
 }
 
-// No ring: of the slots of the board that are not open, none is left.
+// No ring: these are all the struck slots, of which there are so many. (A slot that is found has a rule's number, so it is struck.)
 pub fn no_ring(struck: usize, rules: Rules, table: &[u32], killers: &[u8], slots: &[u8]) -> bool {
     let set = grounded(rules, table, killers, slots);
     crate::masks::lost(set, Masks::none()) == struck

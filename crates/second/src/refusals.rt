@@ -1,7 +1,7 @@
 // The number under which a command is refused, or 0: document 01's table, decided from this program's own ledger.
-use crate::entry::Entry;
 use crate::ledger::Draft;
 use crate::ledger::Ledger;
+use crate::request::Request;
 use crate::word::column;
 
 // Whether a count may not stand behind the count before it.
@@ -22,6 +22,7 @@ fn bad_counts(counts: [u8; 32]) -> bool {
     counts[0] == 0
 }
 
+// Whether the call is on the board.
 fn on_board(counts: [u8; 32], call: usize) -> bool {
     let i = call % 32;
     (call < 32) & (counts[i] != 0)
@@ -56,10 +57,11 @@ fn spare_used(fields: u32, arity: u8) -> bool {
     b | c | d
 }
 
-fn of_head(counts: [u8; 32], entry: Entry) -> u8 {
-    let arity = entry.byte(2);
-    let calls = entry.word(3);
-    if 63 < entry.byte(1) {
+// Kind 2: 7, 8, 9, 10, 11.
+fn of_head(counts: [u8; 32], request: Request) -> u8 {
+    let arity = request.byte(2);
+    let calls = request.word(3);
+    if 63 < request.byte(1) {
         return 7;
     }
     if arity < 1 || 4 < arity {
@@ -102,6 +104,7 @@ fn row_twice(draft: Draft, row: u32) -> bool {
     false
 }
 
+// Kind 3: 12, 13, 14, 11, 15.
 fn of_row(counts: [u8; 32], draft: Draft, row: u32) -> u8 {
     if draft.arity == 0 {
         return 12;
@@ -118,6 +121,7 @@ fn of_row(counts: [u8; 32], draft: Draft, row: u32) -> u8 {
     if row_twice(draft, row) { 15 } else { 0 }
 }
 
+// Kind 4: 12, 16.
 fn of_put(ledger: Ledger) -> u8 {
     let draft = ledger.draft;
     let rules = ledger.rules;
@@ -127,6 +131,7 @@ fn of_put(ledger: Ledger) -> u8 {
     if rules.in_force(draft.number) { 16 } else { 0 }
 }
 
+// Kind 5: 7, 17.
 fn of_lift(ledger: Ledger, number: u8) -> u8 {
     let rules = ledger.rules;
     if 63 < number {
@@ -135,44 +140,45 @@ fn of_lift(ledger: Ledger, number: u8) -> u8 {
     if rules.in_force(number) { 0 } else { 17 }
 }
 
-// Kinds 2 to 5.
-fn of_kind(ledger: Ledger, entry: Entry) -> u8 {
+// Kinds 2 to 5: 6, and then the kind's own.
+fn of_kind(ledger: Ledger, request: Request) -> u8 {
     let counts = ledger.counts;
     if counts[0] == 0 {
         return 6;
     }
     let draft = ledger.draft;
-    let kind = entry.kind();
+    let kind = request.kind();
     match kind {
-        2 => of_head(counts, entry),
-        3 => of_row(counts, draft, entry.word(1)),
+        2 => of_head(counts, request),
+        3 => of_row(counts, draft, request.word(1)),
         4 => of_put(ledger),
-        _ => of_lift(ledger, entry.byte(1)),
+        _ => of_lift(ledger, request.byte(1)),
     }
 }
 
 // Whether a buffer that is lent is not of its length.
-fn other_length(entry: Entry) -> bool {
-    (entry.rows != crate::entry::ROWS)
-        | (entry.killers != crate::entry::KILLERS)
-        | (entry.slots != crate::entry::SLOTS)
+fn other_length(request: Request) -> bool {
+    (request.rows != crate::request::ROWS)
+        | (request.killers != crate::request::KILLERS)
+        | (request.slots != crate::request::SLOTS)
 }
 
-pub fn refusal(ledger: Ledger, entry: Entry) -> u8 {
-    if other_length(entry) {
+// The number of the refusal, or 0 for none: 1, 3, 4, and then 5 or what kinds 2 to 5 have.
+pub fn refusal(ledger: Ledger, request: Request) -> u8 {
+    if other_length(request) {
         return 1;
     }
-    let kind = entry.kind();
+    let kind = request.kind();
     if kind < 1 || 5 < kind {
         return 3;
     }
-    if entry.length != 1 + crate::entry::body_length(kind) {
+    if request.length != 1 + crate::request::body_length(kind) {
         return 4;
     }
     if kind != 1 {
-        return of_kind(ledger, entry);
+        return of_kind(ledger, request);
     }
-    if bad_counts(crate::ledger::counts_of(entry)) {
+    if bad_counts(crate::ledger::counts_of(request)) {
         5
     } else {
         0

@@ -1,9 +1,9 @@
 // One command through the command entry and through this program's own ledger and filter, and the comparison of the two. The program's own table has the rows of
 // the rules in force, and behind them the killers and the slots as the last command left them.
-use crate::compare::Told;
-use crate::entry::Entry;
+use crate::compare::Reply;
 use crate::ledger::Ledger;
 use crate::masks::Masks;
+use crate::request::Request;
 use model::answer::Answer;
 use model::answer::Outcome;
 use model::value::Value;
@@ -17,7 +17,7 @@ pub struct Run {
     pub open: Masks,
     // of the last command: the refusal that was due, the answer, and what differed
     pub due: u8,
-    pub told: Told,
+    pub reply: Reply,
     pub difference: u8,
 }
 
@@ -29,7 +29,7 @@ impl Run {
             ledger: Ledger::fresh(),
             open: Masks::none(),
             due: 0,
-            told: Told::refused(0),
+            reply: Reply::refused(0),
             difference: 0,
         }
     }
@@ -38,24 +38,27 @@ impl Run {
     fn with_outcome(mut self, outcome: Outcome, due: u8) -> Run {
         let answer = outcome.answer;
         let value = outcome.value;
-        let told = crate::compare::told_by(answer);
+        let reply = crate::compare::reply_of(answer);
         self.value = value;
         self.due = due;
-        self.told = told;
+        self.reply = reply;
         self
     }
 
+    // The run with what differs.
     pub fn with_difference(mut self, difference: u8) -> Run {
         self.difference = difference;
         self
     }
 }
 
-// Where the copies lie in the table: words, four bytes to each.
+// Where the copy of the killers begins in the table.
 const KILLERS_AT: usize = 4096;
 
+// Where the copy of the slots begins.
 const SLOTS_AT: usize = 5120;
 
+// Where the table ends.
 const END: usize = 5376;
 
 // Copies a buffer to the words from a to e.
@@ -103,15 +106,15 @@ fn unanswered(value: Value) -> Outcome {
 // Hands the command to the command entry, with buffers of the lengths that it is to be lent.
 fn enter(
     value: Value,
-    entry: Entry,
+    request: Request,
     rows: &mut [u8],
     killers: &mut [u8],
     slots: &mut [u8],
 ) -> Outcome {
-    let bytes = entry.bytes;
-    let n = entry.rows;
-    let m = entry.killers;
-    let k = entry.slots;
+    let bytes = request.bytes;
+    let n = request.rows;
+    let m = request.killers;
+    let k = request.slots;
     if rows.len() < n {
         return unanswered(value);
     }
@@ -123,7 +126,7 @@ fn enter(
     }
     board::command(
         value,
-        crate::bytes::first(&bytes, entry.length),
+        crate::bytes::first(&bytes, request.length),
         &mut rows[0..n],
         &mut killers[0..m],
         &mut slots[0..k],
@@ -135,7 +138,7 @@ fn writes(kind: u8) -> bool {
     (kind == 1) | (kind == 4) | (kind == 5)
 }
 
-// Whether the last command, of this kind, may have changed them.
+// Whether the last command, of this kind, may have changed the buffers.
 fn changes(run: Run, kind: u8) -> bool {
     (run.due == 0) & writes(kind)
 }
@@ -150,12 +153,12 @@ fn open_after(open: Masks, kind: u8, ledger: Ledger, table: &[u32]) -> Masks {
 }
 
 // This program's own account after a command for which this refusal was due.
-fn accounted(run: Run, entry: Entry, due: u8, table: &mut [u32]) -> Run {
+fn accounted(run: Run, request: Request, due: u8, table: &mut [u32]) -> Run {
     if due != 0 {
         return run;
     }
-    let ledger = crate::ledger::after(run.ledger, entry, table);
-    let open = open_after(run.open, entry.kind(), ledger, table);
+    let ledger = crate::ledger::after(run.ledger, request, table);
+    let open = open_after(run.open, request.kind(), ledger, table);
     let mut next = run;
     next.ledger = ledger;
     next.open = open;
@@ -164,9 +167,9 @@ fn accounted(run: Run, entry: Entry, due: u8, table: &mut [u32]) -> Run {
 
 // Whether the bytes past the ends of the buffers are as they were.
 fn ends_hold(rows: &[u8], killers: &[u8], slots: &[u8]) -> bool {
-    let a = crate::bytes::byte(rows, crate::entry::ROWS) == 255;
-    let b = crate::bytes::byte(killers, crate::entry::KILLERS) == 255;
-    let c = crate::bytes::byte(slots, crate::entry::SLOTS) == 254;
+    let a = crate::bytes::byte(rows, crate::request::ROWS) == 255;
+    let b = crate::bytes::byte(killers, crate::request::KILLERS) == 255;
+    let c = crate::bytes::byte(slots, crate::request::SLOTS) == 254;
     a & b & c
 }
 
@@ -207,25 +210,25 @@ fn answer_difference(before: Run, after: Run, kind: u8) -> u8 {
     let counts = ledger.counts;
     let open = before.open;
     let struck = crate::masks::lost(crate::masks::all(counts), open);
-    crate::compare::answer_difference(after.told, after.due, kind, open, after.open, struck)
+    crate::compare::answer_difference(after.reply, after.due, kind, open, after.open, struck)
 }
 
 // The command both ways: handed to the command entry, and in this program's own account.
 fn performed(
     run: Run,
-    entry: Entry,
+    request: Request,
     rows: &mut [u8],
     killers: &mut [u8],
     slots: &mut [u8],
     table: &mut [u32],
 ) -> Run {
-    let due = crate::refusals::refusal(run.ledger, entry);
-    let outcome = enter(run.value, entry, rows, killers, slots);
-    let own = accounted(run, entry, due, table);
+    let due = crate::refusals::refusal(run.ledger, request);
+    let outcome = enter(run.value, request, rows, killers, slots);
+    let own = accounted(run, request, due, table);
     own.with_outcome(outcome, due)
 }
 
-// What differs after a command that may have changed killers and slots, or not.
+// What differs after a command.
 fn difference(
     before: Run,
     after: Run,
@@ -242,17 +245,17 @@ fn difference(
     memory_difference(after, changes(after, kind), table, rows, killers, slots)
 }
 
-// The run after a command with what differs, and killers and slots copied.
+// The run after a command with what differs. Killers and slots are copied where they may have changed.
 fn judged(
     before: Run,
     after: Run,
-    entry: Entry,
+    request: Request,
     rows: &[u8],
     killers: &[u8],
     slots: &[u8],
     table: &mut [u32],
 ) -> Run {
-    let kind = entry.kind();
+    let kind = request.kind();
     let n = difference(before, after, kind, rows, killers, slots, table);
     keep(changes(after, kind), killers, slots, table);
     after.with_difference(n)
@@ -261,12 +264,12 @@ fn judged(
 // One command.
 pub fn step(
     run: Run,
-    entry: Entry,
+    request: Request,
     rows: &mut [u8],
     killers: &mut [u8],
     slots: &mut [u8],
     table: &mut [u32],
 ) -> Run {
-    let after = performed(run, entry, rows, killers, slots, table);
-    judged(run, after, entry, rows, killers, slots, table)
+    let after = performed(run, request, rows, killers, slots, table);
+    judged(run, after, request, rows, killers, slots, table)
 }

@@ -7,11 +7,9 @@ pub struct Tally {
     pub commands: usize,
     // lists in which something differed
     pub differences: usize,
-    // by kind
-    pub accepted: [usize; 8],
-    // by number
-    pub refused: [usize; 32],
-    // by puts; and by lifts, with what they touched
+    // commands: accepted ones by kind, the heads among them by arity, refused ones by number
+    pub counts: [usize; 64],
+    // slots that were struck and reopened, and those that lifts touched
     pub struck: usize,
     pub reopened: usize,
     pub touched: usize,
@@ -21,10 +19,21 @@ pub struct Tally {
     pub most_rows: usize,
 }
 
+// Where the counts by kind begin.
+pub const KINDS: usize = 0;
+
+// Where the counts by arity begin.
+pub const ARITIES: usize = 8;
+
+// Where the counts by the number of a refusal begin.
+pub const REFUSALS: usize = 32;
+
+// The sum; what is counted here never wraps.
 fn sum(a: usize, b: usize) -> usize {
     std::num::wrapping_add_usize(a, b)
 }
 
+// The larger of the two.
 fn larger(a: usize, b: usize) -> usize {
     if a < b { b } else { a }
 }
@@ -40,13 +49,13 @@ fn rules_after(rules: usize, kind: u8) -> usize {
 }
 
 impl Tally {
+    // Before the first list.
     pub fn none() -> Tally {
         Tally {
             lists: 0,
             commands: 0,
             differences: 0,
-            accepted: [0; 8],
-            refused: [0; 32],
+            counts: [0; 64],
             struck: 0,
             reopened: 0,
             touched: 0,
@@ -56,21 +65,26 @@ impl Tally {
         }
     }
 
-    fn with_refusal(mut self, n: u8) -> Tally {
-        let i = (n % 32) as usize;
-        let before = self.refused[i];
-        self.refused[i] = sum(before, 1);
+    // One more at i.
+    fn counted(mut self, i: usize) -> Tally {
+        let at = i % 64;
+        let before = self.counts[at];
+        self.counts[at] = sum(before, 1);
         self
     }
 
-    fn with_kind(mut self, kind: u8) -> Tally {
-        let i = (kind % 8) as usize;
-        let before = self.accepted[i];
-        self.accepted[i] = sum(before, 1);
+    // The report of an accepted command.
+    fn with_report(mut self, kind: u8, run: Run) -> Tally {
+        let reply = run.reply;
+        self.struck = sum(self.struck, reply.struck);
+        self.reopened = sum(self.reopened, reply.reopened);
+        if kind == 5 {
+            self.touched = sum(self.touched, reply.touched);
+        }
         self
     }
 
-    // The largest boards.
+    // The board and the draft after an accepted command.
     fn with_board(mut self, kind: u8, run: Run) -> Tally {
         let ledger = run.ledger;
         let draft = ledger.draft;
@@ -78,15 +92,8 @@ impl Tally {
         self.rules = rules;
         self.most_rules = larger(self.most_rules, rules);
         self.most_rows = larger(self.most_rows, draft.length as usize);
-        self
-    }
-
-    fn with_report(mut self, kind: u8, run: Run) -> Tally {
-        let told = run.told;
-        self.struck = sum(self.struck, told.struck);
-        self.reopened = sum(self.reopened, told.reopened);
-        if kind == 5 {
-            self.touched = sum(self.touched, told.touched);
+        if kind == 2 {
+            return self.counted(ARITIES + (draft.arity % 8) as usize);
         }
         self
     }
@@ -95,9 +102,9 @@ impl Tally {
     pub fn with(mut self, kind: u8, run: Run) -> Tally {
         self.commands = sum(self.commands, 1);
         if run.due != 0 {
-            return self.with_refusal(run.due);
+            return self.counted(REFUSALS + (run.due % 32) as usize);
         }
-        self.with_kind(kind)
+        self.counted(KINDS + (kind % 8) as usize)
             .with_report(kind, run)
             .with_board(kind, run)
     }
@@ -110,5 +117,11 @@ impl Tally {
             self.differences = sum(self.differences, 1);
         }
         self
+    }
+
+    // The count at i.
+    pub fn count(self, i: usize) -> usize {
+        let at = i % 64;
+        self.counts[at]
     }
 }

@@ -3,6 +3,7 @@
 // All four bytes 255: no calls, and no row.
 pub const BLANK: u32 = 4294967295;
 
+// The word of four bytes.
 pub fn pack(a: u8, b: u8, c: u8, d: u8) -> u32 {
     a as u32 + 256 * (b as u32) + 65536 * (c as u32) + 16777216 * (d as u32)
 }

@@ -1,10 +1,10 @@
 // The writer of random lists: the next command, from the ledger and a random number. Most rules are such that slots lose support through each other where one is
 // struck: their calls are neighbours in a circle, and their rows pair each slot with one or two others.
 use crate::bytes::wide;
-use crate::entry::Entry;
 use crate::ledger::Ledger;
 use crate::ledger::Rules;
 use crate::random::Random;
+use crate::request::Request;
 use crate::word::column;
 ghost use Prim.Native.Nat.{_≤_, _<_};
 
@@ -16,40 +16,43 @@ pub struct Size {
     pub numbers: usize,
     // rows of a rule that has them at random
     pub rows: usize,
-    // out of 64: how often a lift is next where there is no draft, and how often a rule is one that strikes
+    // how often, out of 64: a lift is next where there is no draft; a rule leaves some rows out; it has rows at random
     pub lifts: usize,
-    pub strikes: usize,
+    pub gaps: usize,
+    pub wild: usize,
     // whether every call has 32 slots, and every slot two rows
     pub full: bool,
     pub commands: usize,
 }
 
-// How the rows of the draft at hand are written.
-pub struct Plan {
-    // at random; else one row for each slot of the first call, or two, whose other slots lie so many further on
+// How the rows of the draft at hand are written: at random, or one or two rows for each slot of the first call.
+pub struct Pattern {
     pub wild: bool,
     pub two: bool,
+    // how many slots further on the slot in the next column lies
     pub shift: usize,
     // rows tried, and to be tried
     pub tried: usize,
     pub rows: usize,
 }
 
+// The writer of one list.
 pub struct Writer {
     pub random: Random,
     pub size: Size,
-    pub plan: Plan,
+    pub pattern: Pattern,
 }
 
+// A command, and the writer after it.
 pub struct Written {
-    pub entry: Entry,
+    pub request: Request,
     pub writer: Writer,
 }
 
-impl Plan {
+impl Pattern {
     // Nothing to be written.
-    pub fn none() -> Plan {
-        Plan {
+    pub fn none() -> Pattern {
+        Pattern {
             wild: false,
             two: false,
             shift: 0,
@@ -58,8 +61,8 @@ impl Plan {
         }
     }
 
-    // One row more is tried.
-    fn next(mut self) -> Plan {
+    // The pattern with one row more tried.
+    fn next(mut self) -> Pattern {
         let n = self.tried;
         self.tried = n % 1024 + 1;
         self
@@ -67,11 +70,12 @@ impl Plan {
 }
 
 impl Writer {
+    // Before the first command.
     pub fn new(size: Size, seed: u64) -> Writer {
         Writer {
             random: Random::new(seed),
             size,
-            plan: Plan::none(),
+            pattern: Pattern::none(),
         }
     }
 
@@ -88,16 +92,16 @@ impl Writer {
         random.below(n)
     }
 
-    // The writer with another plan.
-    fn with(mut self, plan: Plan) -> Writer {
-        self.plan = plan;
+    // The writer with another pattern.
+    fn with(mut self, pattern: Pattern) -> Writer {
+        self.pattern = pattern;
         self
     }
 
     // A command, and the writer after it.
-    pub fn writes(self, entry: Entry) -> Written {
+    pub fn writes(self, request: Request) -> Written {
         let writer = self;
-        Written { entry, writer }
+        Written { request, writer }
     }
 }
 
@@ -139,15 +143,16 @@ fn count(size: Size, random: Random, c: usize) -> u8 {
     (1 + random.below(size.slots) % 32) as u8
 }
 
+// A new board.
 fn board(writer: Writer) -> Written {
     let size = writer.size;
     let mut random = writer.random;
-    let mut entry = Entry::new(1);
+    let mut request = Request::new(1);
     for c in 0..32 {
         random = random.next();
-        entry = entry.with(c + 1, count(size, random, c));
+        request = request.with(c + 1, count(size, random, c));
     }
-    writer.writes(entry)
+    writer.writes(request)
 }
 
 // The number of calls of the board.
@@ -171,10 +176,11 @@ fn find(rules: Rules, from: usize, n: usize, in_force: bool) -> u8 {
     (from % 64) as u8
 }
 
+// A lift of a rule in force, if there is one.
 fn lift(writer: Writer, rules: Rules) -> Written {
     let size = writer.size;
     let number = find(rules, writer.below(size.numbers), size.numbers, true);
-    writer.writes(Entry::lift(number))
+    writer.writes(Request::lift(number))
 }
 
 // The arity of a rule, mostly 2, but at most n.
@@ -221,41 +227,42 @@ fn calls(writer: Writer, n: usize, columns: usize) -> u32 {
     )
 }
 
-// The rows to be tried of those that give each of n slots one row or two: all, and sometimes one more or some fewer.
-fn row_count(writer: Writer, n: usize, two: bool, strikes: bool) -> usize {
-    let n = n % 33;
-    let whole = if two { 2 * n } else { n };
-    if strikes {
-        return less(whole, 1 + writer.below(whole) % 64);
+// How many rows give each of n slots one row or two.
+fn full_rows(n: usize, two: bool) -> usize
+    ensures { λ r. ⌜ r ≤ 64 ⌝ }
+{
+    if two { 2 * (n % 33) } else { n % 33 }
+}
+
+// How many of them are tried: some fewer where there are to be gaps, else sometimes one more.
+fn row_count(writer: Writer, n: usize, two: bool, gaps: bool) -> usize {
+    let size = writer.size;
+    let whole = full_rows(n, two);
+    if gaps {
+        return less(whole, 1 + writer.below(3) % 3);
     }
-    if writer.below(8) == 0 {
-        n + n + 1
+    if size.full || writer.below(8) == 0 {
+        whole + 1
     } else {
         whole
     }
 }
 
-// Whether a rule of so many columns is to strike something.
-fn strikes(writer: Writer, columns: usize) -> bool {
+// The pattern of a rule of so many columns whose first call has n slots. One column alone strikes nothing unless there are gaps.
+fn chosen_pattern(writer: Writer, n: usize, columns: usize) -> Pattern {
     let size = writer.size;
-    (writer.below(64) < size.strikes) | (columns == 1)
-}
-
-// The plan of a rule of so many columns whose first call has n slots.
-fn planned(writer: Writer, n: usize, columns: usize) -> Plan {
-    let size = writer.size;
-    let strikes = strikes(writer, columns);
     let b = writer.next();
     let c = b.next();
     let d = c.next();
-    let wild = strikes & (b.below(2) == 0);
-    let two = size.full | (c.below(2) == 0);
+    let gaps = (columns == 1) | (writer.below(64) < size.gaps);
+    let wild = b.below(64) < size.wild;
+    let two = (1 < columns) & (size.full | (c.below(2) == 0));
     let rows = if wild {
         d.below(size.rows)
     } else {
-        row_count(d, n, two, strikes)
+        row_count(d, n, two, gaps)
     };
-    Plan {
+    Pattern {
         wild,
         two,
         shift: d.next().below(3),
@@ -275,6 +282,7 @@ fn number(writer: Writer, rules: Rules) -> u8 {
     }
 }
 
+// The head of a rule, and the pattern of its rows.
 fn head(writer: Writer, ledger: Ledger) -> Written {
     let counts = ledger.counts;
     let n = call_count(counts);
@@ -282,25 +290,25 @@ fn head(writer: Writer, ledger: Ledger) -> Written {
     let b = writer.next();
     let on = calls(b, n, columns);
     let c = b.next().next();
-    let entry = Entry::head(number(c, ledger.rules), (columns % 256) as u8, on);
+    let request = Request::head(number(c, ledger.rules), (columns % 256) as u8, on);
     let d = c.next().next();
     let i = column(on, 0) % 32;
-    let plan = planned(d, wide(counts[i]), columns);
-    d.with(plan).writes(entry)
+    let pattern = chosen_pattern(d, wide(counts[i]), columns);
+    d.with(pattern).writes(request)
 }
 
-// The slot of n in column k of the next row: at random, or by the plan.
+// The slot in column k of the next row, for a call of n slots.
 fn slot(writer: Writer, n: usize, k: usize) -> u8 {
-    let plan = writer.plan;
-    let place = plan.tried % 256;
-    if plan.wild {
+    let pattern = writer.pattern;
+    let place = pattern.tried % 256;
+    if pattern.wild {
         return (writer.below(n) % 32) as u8;
     }
-    if plan.two {
-        let on = plan.shift % 32 + place % 2;
+    if pattern.two {
+        let on = pattern.shift % 32 + place % 2;
         return ((place / 2 + times(k, on)) % positive(n) % 32) as u8;
     }
-    ((place + times(k, plan.shift)) % positive(n) % 32) as u8
+    ((place + times(k, pattern.shift)) % positive(n) % 32) as u8
 }
 
 // The field in column k of the next row of the draft.
@@ -314,6 +322,7 @@ fn field(writer: Writer, ledger: Ledger, k: usize) -> u8 {
     slot(writer, wide(counts[i]), k)
 }
 
+// The next row of the draft.
 fn row(writer: Writer, ledger: Ledger) -> Written {
     let b = writer.next();
     let c = b.next();
@@ -324,27 +333,28 @@ fn row(writer: Writer, ledger: Ledger) -> Written {
         field(c, ledger, 2),
         field(d, ledger, 3),
     );
-    let plan = writer.plan;
-    d.with(plan.next()).writes(Entry::row(word))
+    let pattern = writer.pattern;
+    d.with(pattern.next()).writes(Request::row(word))
 }
 
-// The draft is written: it is put. Where its number is in force that is lifted first, most of the time.
+// The put of the draft. Where its number is in force that is lifted first, most of the time.
 fn put(writer: Writer, ledger: Ledger) -> Written {
     let draft = ledger.draft;
     let rules = ledger.rules;
     if rules.in_force(draft.number) && writer.below(4) != 0 {
-        return writer.writes(Entry::lift(draft.number));
+        return writer.writes(Request::lift(draft.number));
     }
-    writer.writes(Entry::put())
+    writer.writes(Request::put())
 }
 
 // The next command where there is a draft.
 fn drafted(writer: Writer, ledger: Ledger) -> Written {
-    let plan = writer.plan;
-    if writer.below(64) == 0 {
+    let size = writer.size;
+    let pattern = writer.pattern;
+    if writer.below(size.commands) < 2 {
         return head(writer.next(), ledger);
     }
-    if plan.tried < plan.rows {
+    if pattern.tried < pattern.rows {
         row(writer.next(), ledger)
     } else {
         put(writer.next(), ledger)
@@ -367,7 +377,10 @@ fn good(writer: Writer, ledger: Ledger) -> Written {
     let counts = ledger.counts;
     let draft = ledger.draft;
     let next = writer.next();
-    if counts[0] == 0 || writer.below(size.commands) == 0 {
+    if writer.below(size.commands) == 0 {
+        return board(next);
+    }
+    if counts[0] == 0 && next.below(4) != 0 {
         return board(next);
     }
     if draft.arity == 0 {
@@ -377,15 +390,16 @@ fn good(writer: Writer, ledger: Ledger) -> Written {
     }
 }
 
-// The next command: one of eight is damaged.
+// The next command. One of eight is damaged, and then the pattern stays where it was.
 pub fn next(writer: Writer, ledger: Ledger) -> Written {
+    let pattern = writer.pattern;
     let made = good(writer.next(), ledger);
-    let entry = made.entry;
-    let writer = made.writer.next();
-    if writer.below(8) != 0 {
-        return writer.writes(entry);
+    let request = made.request;
+    let b = made.writer.next();
+    if b.below(8) != 0 {
+        return b.writes(request);
     }
-    let b = writer.next();
-    let damaged = crate::damage::damaged(entry, ledger.draft, b.random);
-    b.next().next().writes(damaged)
+    let c = b.next();
+    let damaged = crate::damage::damaged(request, ledger.draft, c.random);
+    c.next().with(pattern).writes(damaged)
 }

@@ -7,10 +7,10 @@ use Rattle.second.proofs.ledger.counts_of.Statement.{statement}
 use Rattle.second.proofs.ledger.counts_of.Tie as tie
 
 abbrev Inv-loop : tie.InvT-loop
-Inv-loop entry counts₀ i₀ counts i = (i ≤ 32) × (length counts ≡ 32)
+Inv-loop request counts₀ i₀ counts i = (i ≤ 32) × (length counts ≡ 32)
 
 abbrev μ-loop : tie.MeasureT-loop
-μ-loop entry counts₀ i₀ counts i = 32 - i
+μ-loop request counts₀ i₀ counts i = 32 - i
 
 loop-holds : tie.Need-loop-holds Inv-loop μ-loop
 loop-holds c = search needs

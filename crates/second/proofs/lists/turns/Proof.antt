@@ -7,10 +7,12 @@ use Rattle.second.proofs.lists.turns.Statement.{statement}
 use Rattle.second.proofs.lists.turns.Tie as tie
 
 abbrev Inv-loop : tie.InvT-loop
-Inv-loop n rows₀ killers₀ slots₀ table₀ state₀ counter₀ rows killers slots table state counter = (counter ≤ 5600) × (length rows ≡ length rows₀) × (length killers ≡ length killers₀) × (length slots ≡ length slots₀) × (length table ≡ length table₀)
+Inv-loop n rows₀ killers₀ slots₀ table₀ progress₀ counter₀ rows killers slots table progress counter =
+    (counter ≤ 7000) × (length rows ≡ length rows₀) × (length killers ≡ length killers₀) × (length slots ≡ length slots₀) × (length table ≡ length table₀)
 
 abbrev μ-loop : tie.MeasureT-loop
-μ-loop n rows₀ killers₀ slots₀ table₀ state₀ counter₀ rows killers slots table state counter = 5600 - counter
+μ-loop n rows₀ killers₀ slots₀ table₀ progress₀ counter₀ rows killers slots table progress counter =
+    7000 - counter
 
 loop-holds : tie.Need-loop-holds Inv-loop μ-loop
 loop-holds c = search needs

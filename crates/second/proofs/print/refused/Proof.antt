@@ -5,10 +5,10 @@ use Rattle.second.proofs.print.refused.Statement.{statement}
 use Rattle.second.proofs.print.refused.Tie as tie
 
 abbrev Inv-loop : tie.InvT-loop
-Inv-loop refused n₀ t5 n = (1 ≤ n) × (n ≤ 18)
+Inv-loop tally n₀ t4 n = (1 ≤ n) × (n ≤ 18)
 
 abbrev μ-loop : tie.MeasureT-loop
-μ-loop refused n₀ t5 n = 18 - n
+μ-loop tally n₀ t4 n = 18 - n
 
 slice-aggregate-text : tie.Need-slice-aggregate-text Inv-loop μ-loop
 slice-aggregate-text c = search needs
@@ -19,11 +19,11 @@ text-requires c κs = search needs
 loop-holds : tie.Need-loop-holds Inv-loop μ-loop
 loop-holds c = search needs
 
-mul-refused-under : tie.Need-mul-refused-under Inv-loop μ-loop
-mul-refused-under c = search needs
+add-count : tie.Need-add-count Inv-loop μ-loop
+add-count c = search needs
 
-array-read-refused-under : tie.Need-array-read-refused-under Inv-loop μ-loop
-array-read-refused-under c = search needs
+count-requires : tie.Need-count-requires Inv-loop μ-loop
+count-requires c κs = search needs
 
 refused-under-requires : tie.Need-refused-under-requires Inv-loop μ-loop
 refused-under-requires c κs = search needs
@@ -55,8 +55,8 @@ refused-spec =
     slice-aggregate-text
     text-requires
     loop-holds
-    mul-refused-under
-    array-read-refused-under
+    add-count
+    count-requires
     refused-under-requires
     add-n
     loop-less

@@ -5,10 +5,10 @@ use Rattle.second.proofs.writer.board.Statement.{statement}
 use Rattle.second.proofs.writer.board.Tie as tie
 
 abbrev Inv-loop : tie.InvT-loop
-Inv-loop writer size random₀ entry₀ c₀ random entry c = c ≤ 32
+Inv-loop writer size random₀ request₀ c₀ random request c = c ≤ 32
 
 abbrev μ-loop : tie.MeasureT-loop
-μ-loop writer size random₀ entry₀ c₀ random entry c = 32 - c
+μ-loop writer size random₀ request₀ c₀ random request c = 32 - c
 
 new-requires : tie.Need-new-requires Inv-loop μ-loop
 new-requires c κs = search needs

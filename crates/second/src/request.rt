@@ -1,7 +1,8 @@
 // What the command entry is fed: a command's bytes, and how long the buffers are that are lent with it.
 ghost use Prim.Native.Nat.{_≤_};
 
-pub struct Entry {
+// A command's bytes, and the lengths of rows, killers and slots.
+pub struct Request {
     pub bytes: [u8; 40],
     // how many of the bytes count
     pub length: usize,
@@ -10,11 +11,13 @@ pub struct Entry {
     pub slots: usize,
 }
 
-// The lengths of the buffers.
+// The row bytes that document 01 says.
 pub const ROWS: usize = 16384;
 
+// The killer bytes.
 pub const KILLERS: usize = 4096;
 
+// The slot bytes.
 pub const SLOTS: usize = 1024;
 
 // How many bytes follow a kind.
@@ -30,52 +33,56 @@ pub fn body_length(kind: u8) -> usize
     }
 }
 
-impl Entry {
+impl Request {
     // A command of this kind whose body is 0 throughout, with the right buffers.
-    pub fn new(kind: u8) -> Entry {
-        let entry = Entry {
+    pub fn new(kind: u8) -> Request {
+        let request = Request {
             bytes: [0; 40],
             length: 1 + body_length(kind),
             rows: ROWS,
             killers: KILLERS,
             slots: SLOTS,
         };
-        entry.with(0, kind)
+        request.with(0, kind)
     }
 
     // A board of at most four calls.
-    pub fn board(counts: u32) -> Entry {
-        Entry::new(1).with_word(1, counts)
+    pub fn board(counts: u32) -> Request {
+        Request::new(1).with_word(1, counts)
     }
 
-    pub fn head(number: u8, arity: u8, calls: u32) -> Entry {
-        Entry::new(2)
+    // The head of a draft.
+    pub fn head(number: u8, arity: u8, calls: u32) -> Request {
+        Request::new(2)
             .with(1, number)
             .with(2, arity)
             .with_word(3, calls)
     }
 
-    pub fn row(slots: u32) -> Entry {
-        Entry::new(3).with_word(1, slots)
+    // A row of it.
+    pub fn row(slots: u32) -> Request {
+        Request::new(3).with_word(1, slots)
     }
 
-    pub fn put() -> Entry {
-        Entry::new(4)
+    // The put of it.
+    pub fn put() -> Request {
+        Request::new(4)
     }
 
-    pub fn lift(number: u8) -> Entry {
-        Entry::new(5).with(1, number)
+    // The lift of a rule.
+    pub fn lift(number: u8) -> Request {
+        Request::new(5).with(1, number)
     }
 
     // The command with another byte at i.
-    pub fn with(mut self, i: usize, b: u8) -> Entry {
+    pub fn with(mut self, i: usize, b: u8) -> Request {
         let at = i % 40;
         self.bytes[at] = b;
         self
     }
 
     // The command with a word's four bytes from i on.
-    pub fn with_word(self, i: usize, word: u32) -> Entry {
+    pub fn with_word(self, i: usize, word: u32) -> Request {
         let at = i % 36;
         self.with(at, (word % 256) as u8)
             .with(at + 1, (word / 256 % 256) as u8)
