@@ -1,0 +1,26 @@
+use borrow.Author.Needs.{needs}
+use Rattle.sheet.proofs.file.board_lines.Statement.{statement}
+use Rattle.sheet.proofs.file.board_lines.Tie as tie
+use Rattle.sheet.proofs.file.board_lines.Reads as reads
+use Rattle.sheet.proofs.file.board_lines.Lts as lts
+use Rattle.lines.proofs.call_count.Reads as call-count-reads
+use Rattle.lines.proofs.call_lines.Reads as call-lines-reads
+
+-- src/file.rt:21:9
+call-count-requires : tie.Need-call-count-requires
+call-count-requires c κs = search needs
+
+-- src/file.rt:22:5
+call-lines-requires : tie.Need-call-lines-requires
+call-lines-requires c κs = ?
+
+-- src/file.rt:15:1
+same-length : tie.Need-same-length
+same-length c = search needs
+
+-- src/file.rt:15:1
+returns : tie.Need-returns
+returns c = ?
+
+pub board-lines-spec : {M : Type 1} → statement M
+board-lines-spec = tie.close (tie.spec call-count-requires call-lines-requires same-length returns)

@@ -1,0 +1,89 @@
+use borrow.Author.Needs.{needs}
+use Rattle.sheet.proofs.turn.turn.Statement.{statement}
+use Rattle.sheet.proofs.turn.turn.Tie as tie
+use Rattle.sheet.proofs.turn.turn.Reads as reads
+use Rattle.sheet.proofs.turn.turn.Lts as lts
+use Rattle.decode.proofs.decode.Reads as decode-reads
+use Rattle.sheet.proofs.line.answer_line.Reads as answer-line-reads
+use Rattle.sheet.proofs.line.refusal_line.Reads as refusal-line-reads
+use Rattle.sheet.proofs.stub.obey.Reads as obey-reads
+
+-- src/turn.rt:33:9
+decode-requires : tie.Need-decode-requires
+decode-requires c κs = search needs
+
+-- src/turn.rt:36:23
+enum-known-read : tie.Need-enum-known-read
+enum-known-read c = search needs
+
+-- src/turn.rt:38:17
+obey-requires : tie.Need-obey-requires
+obey-requires c κs = search needs
+
+-- src/turn.rt:41:17
+answer-line-requires : tie.Need-answer-line-requires
+answer-line-requires c κs = ?
+
+-- src/turn.rt:45:23
+enum-known-read-2 : tie.Need-enum-known-read-2
+enum-known-read-2 c = search needs
+
+-- src/turn.rt:46:17
+refusal-line-requires : tie.Need-refusal-line-requires
+refusal-line-requires c κs = search needs
+
+-- src/turn.rt:51:17
+enum-told : tie.Need-enum-told
+enum-told c = search needs
+
+-- src/turn.rt:19:1
+same-length : tie.Need-same-length
+same-length c = search needs
+
+-- src/turn.rt:19:1
+same-length-2 : tie.Need-same-length-2
+same-length-2 c = search needs
+
+-- src/turn.rt:19:1
+same-length-3 : tie.Need-same-length-3
+same-length-3 c = search needs
+
+-- src/turn.rt:19:1
+same-length-4 : tie.Need-same-length-4
+same-length-4 c = search needs
+
+-- src/turn.rt:19:1
+returns : tie.Need-returns
+returns c = ?
+
+-- src/turn.rt:19:1
+same-length-5 : tie.Need-same-length-5
+same-length-5 c = search needs
+
+-- src/turn.rt:19:1
+returns-2 : tie.Need-returns-2
+returns-2 c = ?
+
+-- src/turn.rt:19:1
+returns-3 : tie.Need-returns-3
+returns-3 c = ?
+
+pub turn-spec : {M : Type 1} → statement M
+turn-spec =
+    tie.close
+    (tie.spec
+    decode-requires
+    enum-known-read
+    obey-requires
+    answer-line-requires
+    enum-known-read-2
+    refusal-line-requires
+    enum-told
+    same-length
+    same-length-2
+    same-length-3
+    same-length-4
+    returns
+    same-length-5
+    returns-2
+    returns-3)

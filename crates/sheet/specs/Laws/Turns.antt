@@ -1,0 +1,123 @@
+-- ONE TURN: what it reads decides the lines that are left, the next place and the ledger after it; and how the code's turn keeps its promise, by what was read.
+-- Assumes nothing.
+use mathlib.Core.Path.{_≡_, refl, sym, ap, _∙_}
+use mathlib.Core.Bool.{Bool, true, false, true≢false, cond}
+use mathlib.Core.List.{List, [], _∷_, _++_}
+use Prim.Native.Nat.{ℕ, zero, suc, _+_, _≤_, _<_}
+use native.Mathlib.Omega.{arith}
+use lib.ListN.{length, getD}
+use lib.Dec.{leb}
+use borrow.Author.Tests.{leb-true, leb-false, le-leb}
+use Rattle.model.specs.declared.answer.Answer.{Answer}
+use Rattle.model.specs.declared.command.Command.{Command}
+use Rattle.model.specs.declared.command.Read.{Read}
+use Rattle.model.specs.declared.command.Read.the-variants as found
+use Rattle.model.specs.declared.command.Decoded.{Decoded}
+use Rattle.model.specs.Commands.{isKind, bodyLength, commandAt, countsAt, without, readAt}
+use Rattle.model.specs.Ledger.{Ledger, LedgerShape, firstOf, kindConditions, obey}
+use Rattle.model.specs.Representation.{State, Represents}
+use Rattle.model.specs.Sheet.{refusedLine, decisionLine, fileRefusal, readLine, upToRefusal, readsFrom, linesFrom}
+use Rattle.model.specs.Laws.Shapes.{effect-shape, counts-most}
+use Rattle.lines.specs.Append.{Appended, append-none, append-same}
+use Rattle.sheet.specs.declared.turn.Progress.{Progress}
+use Rattle.sheet.specs.Line.{answerLine, LineAppended}
+use Rattle.sheet.specs.Turn.{ledgerAfter, lineOf, placeBy, placeAfter, Turned}
+use Rattle.sheet.specs.Laws.Answers.{answer-line}
+use Rattle.sheet.specs.Obeys.{Obeys}
+
+-- nothing is read at the end
+pub reads-end : (n : ℕ) (s : List ℕ) (at : ℕ) → length s ≤ at → readsFrom n s at ≡ []
+reads-end zero s at h = refl
+reads-end (suc n) s at h = rw (le-leb (length s) at h) refl
+
+-- what is refused leaves the ledger alone
+alone : (n : ℕ) (L : Ledger) (k m : ℕ) (ns : List ℕ) → obey n L (found.Refused k m) ns ≡ L
+alone zero L k m ns = refl
+alone (suc n) L k m ns = refl
+
+-- THE LINES THAT ARE LEFT: the turn's own, and those of the turns after it
+pub turn-lines : (L : Ledger) (input : List ℕ) (m : ℕ) (d : Decoded)
+    → linesFrom L (upToRefusal d (d .read) (readsFrom m input (d .next))) ≡ lineOf L d ++ linesFrom (ledgerAfter L d) (readsFrom m input (placeAfter d (length input)))
+unfolding lineOf ledgerAfter placeAfter
+turn-lines L input m d = go (d .read) (d .counts) (d .next)
+  where
+    go : (r : Read) (ns : List ℕ) (following : ℕ)
+        → linesFrom L (upToRefusal (record { read = r; counts = ns; next = following }) r (readsFrom m input following))
+        ≡ lineOf L (record { read = r; counts = ns; next = following })
+        ++ linesFrom (ledgerAfter L (record { read = r; counts = ns; next = following })) (readsFrom m input (placeBy r following (length input)))
+    go (found.Command c) ns following = refl
+    go (found.Refused k n) ns following = rw (reads-end m input (length input) (omega arith)) refl
+    go found.End ns following = rw (reads-end m input (length input) (omega arith)) refl
+
+-- A TURN READS ON, and not past the end
+module _ (s : List ℕ) (at : ℕ) (h : at < length s) where
+  pub turn-further : (at < placeAfter (readAt s at) (length s)) × (placeAfter (readAt s at) (length s) ≤ length s)
+  unfolding placeAfter
+  turn-further =
+      go (leb (length s) at) refl (isKind (getD s at 0)) (leb (at + 1 + bodyLength (getD s at 0)) (length s)) refl
+    where
+      go : (a : Bool) → leb (length s) at ≡ a → (b : Bool) (c : Bool) → leb (at + 1 + bodyLength (getD s at 0)) (length s) ≡ c
+          → let d =
+          cond a (without found.End at)
+          (cond b
+          (cond c
+          (record {
+            read = found.Command (commandAt s (getD s at 0) (at + 1));
+            counts = countsAt s (getD s at 0) (at + 1);
+            next = at + 1 + bodyLength (getD s at 0);
+          })
+          (without (found.Refused (getD s at 0) 4) at))
+          (without (found.Refused (getD s at 0) 3) at)) in
+          (at < placeBy (d .read) (d .next) (length s)) × (placeBy (d .read) (d .next) (length s) ≤ length s)
+      go true e b c f = absurd (omega (arith, leb-true (length s) at e))
+      go false e true true f = (omega arith, leb-true (at + 1 + bodyLength (getD s at 0)) (length s) f)
+      go false e true false f = (h, omega arith)
+      go false e false c f = (h, omega arith)
+
+-- the ledger keeps its shape
+pub turn-shape : (L : Ledger) (s : List ℕ) (at : ℕ) → LedgerShape L → LedgerShape (ledgerAfter L (readAt s at))
+unfolding ledgerAfter
+turn-shape L s at shape = go (readAt s at .read) (readAt s at .counts) (counts-most s at)
+  where
+    obeyed : (c : Command) (ns : List ℕ) → length ns ≤ 32 → (n : ℕ) → firstOf (kindConditions L c ns) ≡ n → LedgerShape (obey n L (found.Command c) ns)
+    obeyed c ns most zero e = effect-shape L shape c ns most e
+    obeyed c ns most (suc n) e = shape
+
+    go : (r : Read) (ns : List ℕ) → length ns ≤ 32 → LedgerShape (obey (fileRefusal L r ns) L r ns)
+    go (found.Command c) ns most = obeyed c ns most (firstOf (kindConditions L c ns)) refl
+    go (found.Refused k n) ns most = rw (alone n L k n ns) shape
+    go found.End ns most = shape
+
+-- THE CODE'S TURN, by what was read
+module _ (d : Decoded) (end : ℕ) (p : Progress) (before : State) (old : List ℕ) (r : Progress) where
+  pub turned-command : (c : Command) → d .read ≡ found.Command c → (given : Answer) (after : State) (new : List ℕ) → r .at ≡ d .next
+      → Obeys before c (d .counts) given after → LineAppended (answerLine c given) (p .place) old new (r .place) → Turned d end p before old r after new
+  unfolding ledgerAfter lineOf placeAfter
+  turned-command c e given after new at obeys line =
+      record {
+        place = rw e at;
+        short = line .short;
+        line = λ L shape rep. rw e (append-same (answer-line L before after c (d .counts) rep given (obeys .promise .obeyed L shape rep)) (line .appended));
+        represents = λ L shape rep. rw e (obeys .promise .obeyed L shape rep .represents);
+      }
+
+  pub turned-refused : (k n : ℕ) → d .read ≡ found.Refused k n → (new : List ℕ) → r .at ≡ end
+      → LineAppended (refusedLine k n) (p .place) old new (r .place) → Turned d end p before old r before new
+  unfolding ledgerAfter lineOf placeAfter
+  turned-refused k n e new at line =
+      record {
+        place = rw e at;
+        short = line .short;
+        line = λ L shape rep. rw e (line .appended);
+        represents = λ L shape rep. rw (e, alone n L k n (d .counts)) rep;
+      }
+
+  pub turned-end : d .read ≡ found.End → r .at ≡ end → r .place ≡ p .place → Turned d end p before old r before old
+  unfolding ledgerAfter lineOf placeAfter
+  turned-end e at place =
+      record {
+        place = rw e at;
+        short = omega arith;
+        line = λ L shape rep. rw (e, place) (append-none (p .place) old);
+        represents = λ L shape rep. rw e rep;
+      }

@@ -1,0 +1,6 @@
+pub mod Promise
+pub mod Line
+pub mod Lines
+pub mod Turn
+pub mod Laws
+pub mod Obeys
