@@ -1,3 +1,4 @@
+pub mod Short
 pub mod Answers
 pub mod Turns
 pub mod Progress

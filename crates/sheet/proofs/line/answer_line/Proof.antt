@@ -1,4 +1,11 @@
+-- An accepted answer gives the line of its S and R, a refused one that of its number.
+use mathlib.Core.Path.{_∙_}
+use native.Mathlib.Omega.{arith}
 use borrow.Author.Needs.{needs}
+use Rattle.model.specs.declared.answer.Answer.the-variants as answer
+use Rattle.lines.specs.Append.{room-less}
+use Rattle.sheet.specs.Line.{ShortAnswer}
+use Rattle.sheet.specs.Laws.Short.{acceptance-most, acceptance-appended}
 use Rattle.sheet.proofs.line.answer_line.Statement.{statement}
 use Rattle.sheet.proofs.line.answer_line.Tie as tie
 use Rattle.sheet.proofs.line.answer_line.Reads as reads
@@ -8,45 +15,53 @@ use Rattle.sheet.proofs.line.kind_of.Reads as kind-of-reads
 use Rattle.sheet.proofs.line.refusal_line.Reads as refusal-line-reads
 use Rattle.sheet.proofs.line.wide.Reads as wide-reads
 
--- src/line.rt:46:9
 kind-of-requires : tie.Need-kind-of-requires
 kind-of-requires c κs = search needs
 
--- src/line.rt:48:26
 enum-known-answer : tie.Need-enum-known-answer
 enum-known-answer c = search needs
 
--- src/line.rt:49:17
 wide-requires : tie.Need-wide-requires
 wide-requires c κs = search needs
 
--- src/line.rt:50:13
 accepted-line-requires : tie.Need-accepted-line-requires
-accepted-line-requires c κs = ?
+accepted-line-requires c κs = 
+    let w = c .before in
+    let known = w .before .before in
+    let s = known .before .before .before .before in
+    let q = known .answer .given .0 .0 in
+    let short : ShortAnswer (answer.Accepted q) = rw (known .answer .given .1) at (s .pre .1) in
+    let same = w .wide .ensures .same ∙ known .before .before .kind-of .ensures in
+    (room-less (s .pre .0) (acceptance-most (s .args .command) q same short), (omega (arith, w .wide .ensures .most), (omega (arith, short .struck), omega (arith, short .reopened))))
 
--- src/line.rt:52:25
 enum-known-answer-2 : tie.Need-enum-known-answer-2
 enum-known-answer-2 c = search needs
 
--- src/line.rt:52:36
 refusal-line-requires : tie.Need-refusal-line-requires
 refusal-line-requires c κs = search needs
 
--- src/line.rt:41:1
 same-length : tie.Need-same-length
 same-length c = search needs
 
--- src/line.rt:41:1
 returns : tie.Need-returns
-returns c = ?
+returns c =
+    let line = c .before .before in
+    let w = line .before .before in
+    let known = w .before .before in
+    let s = known .before .before .before .before in
+    let q = known .answer .given .0 .0 in
+    let short : ShortAnswer (answer.Accepted q) = rw (known .answer .given .1) at (s .pre .1) in
+    let same = w .wide .ensures .same ∙ known .before .before .kind-of .ensures in
+    rw (known .answer .given .1) (acceptance-appended (s .args .command) q same short (line .accepted-line .ensures))
 
--- src/line.rt:41:1
 same-length-2 : tie.Need-same-length-2
 same-length-2 c = search needs
 
--- src/line.rt:41:1
 returns-2 : tie.Need-returns-2
-returns-2 c = ?
+returns-2 c =
+    let line = c .before .before in
+    let known = line .before .before .before in
+    rw (known .answer2 .given .1, ← known .before .before .kind-of .ensures) (line .refusal-line .ensures)
 
 pub answer-line-spec : {M : Type 1} → statement M
 answer-line-spec =

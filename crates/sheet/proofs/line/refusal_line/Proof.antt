@@ -1,4 +1,8 @@
+-- The kind and the number are bytes, so the line has at most 11.
+use native.Mathlib.Omega.{arith}
 use borrow.Author.Needs.{needs}
+use Rattle.lines.specs.Append.{room-less}
+use Rattle.sheet.specs.Laws.Short.{refusal-most, refusal-appended}
 use Rattle.sheet.proofs.line.refusal_line.Statement.{statement}
 use Rattle.sheet.proofs.line.refusal_line.Tie as tie
 use Rattle.sheet.proofs.line.refusal_line.Reads as reads
@@ -6,25 +10,26 @@ use Rattle.sheet.proofs.line.refusal_line.Lts as lts
 use Rattle.lines.proofs.refused_line.Reads as refused-line-reads
 use Rattle.sheet.proofs.line.wide.Reads as wide-reads
 
--- src/line.rt:35:9
 wide-requires : tie.Need-wide-requires
 wide-requires c κs = search needs
 
--- src/line.rt:36:9
 wide-requires-2 : tie.Need-wide-requires-2
 wide-requires-2 c κs = search needs
 
--- src/line.rt:37:5
 refused-line-requires : tie.Need-refused-line-requires
-refused-line-requires c κs = ?
+refused-line-requires c κs =
+    let k = c .before .before .wide .ensures in
+    let n = c .before .wide2 .ensures in
+    (room-less (c .before .before .before .before .pre) (refusal-most k n), (omega (arith, k .most), omega (arith, n .most)))
 
--- src/line.rt:31:1
 same-length : tie.Need-same-length
 same-length c = search needs
 
--- src/line.rt:31:1
 returns : tie.Need-returns
-returns c = ?
+returns c =
+    let line = c .before .before in
+    let n = line .before .before in
+    refusal-appended (n .before .wide .ensures) (n .wide2 .ensures) (line .refused-line .ensures)
 
 pub refusal-line-spec : {M : Type 1} → statement M
 refusal-line-spec =
