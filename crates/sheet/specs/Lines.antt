@@ -4,9 +4,11 @@ use mathlib.Core.List.{List}
 use Prim.Native.Nat.{ℕ, _≤_}
 use lib.ListN.{length}
 use lib.Dec.{ltb}
-use Rattle.model.specs.Ledger.{fresh}
+use Rattle.model.specs.Ledger.{fresh, upToZero}
 use Rattle.model.specs.Sheet.{refusedLine, readsFrom, linesFrom}
 use Rattle.lines.specs.Append.{Appended}
+use Rattle.lines.specs.Joined.{joined}
+use Rattle.lines.specs.Calls.{slotLine}
 
 -- the lines of the commands and the calls, of an input that is not too long
 unfoldable pub fileLines : List ℕ → List ℕ
@@ -15,6 +17,10 @@ fileLines input = linesFrom fresh (readsFrom (length input) input 0)
 -- the lines of any input
 unfoldable pub inputLines : List ℕ → List ℕ
 inputLines input = cond (ltb 32768 (length input)) (refusedLine 0 2) (fileLines input)
+
+-- the lines of the calls, by the counts and the slot bytes
+unfoldable pub countedLines : List ℕ → List ℕ → List ℕ
+countedLines counts slots = joined (slotLine slots) (length (upToZero counts))
 
 -- the input is not too long, and the buffer has room for the longest sheet
 pub record Fits (input out : List ℕ) : Type 0 where

@@ -4,19 +4,17 @@ use model::value::Value;
 ghost use mathlib.Core.Path.{_≡_};
 ghost use lib.ListN.{length};
 ghost use Rattle.kinds.specs.Outcomes.{stateOf};
-ghost use Rattle.model.specs.Ledger.{fresh, upToZero};
+ghost use Rattle.model.specs.Ledger.{fresh};
 ghost use Rattle.model.specs.Representation.{Represents};
 ghost use Rattle.lines.specs.Append.{Appended, Room};
-ghost use Rattle.lines.specs.Joined.{joined};
-ghost use Rattle.lines.specs.Calls.{slotLine};
-ghost use Rattle.sheet.specs.Lines.{Fits, fileLines, Lined};
+ghost use Rattle.sheet.specs.Lines.{Fits, fileLines, countedLines, Lined};
 
 // The lines of the calls that the counts give: at most 32 of 91 bytes.
 fn board_lines(out: &mut [u8], place: usize, counts: &[u8; 32], slots: &[u8]) -> usize
     requires { ⌜ Room place 2912 (now out) ⌝ }
     requires { ⌜ length (now counts) ≡ 32 ⌝ }
     requires { ⌜ length (now slots) ≡ 1024 ⌝ }
-    ensures { λ r. ⌜ Appended (joined (slotLine (now (slots .entry))) (length (upToZero (now (counts .entry))))) place (now (out .entry)) (now (out .exit)) r ⌝ }
+    ensures { λ r. ⌜ Appended (countedLines (now (counts .entry)) (now (slots .entry))) place (now (out .entry)) (now (out .exit)) r ⌝ }
 {
     let n = lines::call_count(counts);
     lines::call_lines(out, place, slots, n)

@@ -1,4 +1,8 @@
+-- The arrays and the value are the fresh state's.
+use mathlib.Core.Path.{sym, subst}
 use borrow.Author.Needs.{needs}
+use Rattle.model.specs.declared.value.Value.{Value}
+use Rattle.model.specs.Laws.Fresh.{fresh-represents}
 use Rattle.sheet.proofs.file_lines.Statement.{statement}
 use Rattle.sheet.proofs.file_lines.Tie as tie
 use Rattle.sheet.proofs.file_lines.Reads as reads
@@ -24,7 +28,9 @@ slice-aggregate-lines-on-3 c = search needs
 
 -- src/lib.rt:31:5
 lines-on-requires : tie.Need-lines-on-requires
-lines-on-requires c κs = ?
+lines-on-requires c κs =
+    let made = c .before .before .before .before in
+    (made .before .before .before .pre, rw (made .fresh .ensures) fresh-represents)
 
 -- src/lib.rt:23:1
 same-length : tie.Need-same-length

@@ -1,4 +1,6 @@
+-- An input that is too long has one line; any other has those of its commands and its board.
 use borrow.Author.Needs.{needs}
+use Rattle.sheet.specs.Laws.Whole.{too-long, not-long}
 use Rattle.sheet.proofs.input_lines.Statement.{statement}
 use Rattle.sheet.proofs.input_lines.Tie as tie
 use Rattle.sheet.proofs.input_lines.Reads as reads
@@ -16,7 +18,9 @@ same-length c = search needs
 
 -- src/lib.rt:40:9
 returns : tie.Need-returns
-returns c = ?
+returns c =
+    let line = c .before .before in
+    too-long _ (line .before .before .if1 .taken) (line .refusal-line .ensures)
 
 -- src/lib.rt:42:5
 file-lines-requires : tie.Need-file-lines-requires
@@ -28,7 +32,9 @@ same-length-2 c = search needs
 
 -- src/lib.rt:35:1
 returns-2 : tie.Need-returns-2
-returns-2 c = ?
+returns-2 c =
+    let line = c .before .before in
+    not-long _ (line .before .before .if1 .left) (line .file-lines .ensures)
 
 pub input-lines-spec : {M : Type 1} → statement M
 input-lines-spec =

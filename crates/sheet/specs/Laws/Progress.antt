@@ -7,18 +7,16 @@ use native.Mathlib.Omega.{arith}
 use lib.ListN.{length}
 use Rattle.model.specs.declared.command.Decoded.{Decoded}
 use Rattle.model.specs.Commands.{readAt}
-use Rattle.model.specs.Ledger.{Ledger, fresh, upToZero}
+use Rattle.model.specs.Ledger.{fresh}
 use Rattle.model.specs.Representation.{State, Represents}
-use Rattle.model.specs.Sheet.{boardLines, readsFrom, linesFrom}
+use Rattle.model.specs.Sheet.{readsFrom, linesFrom}
 use Rattle.model.specs.Laws.Shapes.{shape-fresh}
 use Rattle.lines.specs.Append.{Room, Appended, append-none, append-more, append-same}
-use Rattle.lines.specs.Joined.{joined}
-use Rattle.lines.specs.Calls.{slotLine}
-use Rattle.lines.specs.Counts.{counted-lines, count-most}
-use Rattle.lines.specs.Lengths.{call-lines-most}
+use Rattle.lines.specs.Counts.{counted-lines}
 use Rattle.sheet.specs.declared.turn.Progress.{Progress}
-use Rattle.sheet.specs.Lines.{fileLines, Fits, Lined}
+use Rattle.sheet.specs.Lines.{fileLines, countedLines, Fits, Lined}
 use Rattle.sheet.specs.Turn.{ledgerAfter, lineOf, placeAfter, Held, Turned, Reached}
+use Rattle.sheet.specs.Laws.Calls.{counted-most}
 use Rattle.sheet.specs.Laws.Turns.{reads-end, turn-lines, turn-further, turn-shape}
 
 -- before the first turn
@@ -78,18 +76,16 @@ module _ (input : List ℕ) (p : Progress) (s : State) (old mid : List ℕ) (r :
   pub turn-room : p .at < length input → Room (p .place) 11 mid
   turn-room further = let s = r .appended .size in let h = r .short in let m = fits .input-most in let o = fits .room in record { fits = omega arith }
 
-  pub reached-end : length input ≤ p .at → (new : List ℕ) (n : ℕ) → Appended (joined (slotLine (s .slots)) (length (upToZero (s .value .heads .counts)))) (p .place) mid new n
+  pub reached-end : length input ≤ p .at → (new : List ℕ) (n : ℕ) → Appended (countedLines (s .value .heads .counts) (s .slots)) (p .place) mid new n
       → Lined (fileLines input) old new n
+  unfolding countedLines
   reached-end last new n a =
       record {
         appended = append-same lines (append-more (r .appended) a);
-        most = omega (arith, a .place, r .short, r .inside, fits .input-most, calls, call-lines-most (s .slots) (length (upToZero (s .value .heads .counts))) calls);
+        most = omega (arith, a .place, r .short, r .inside, fits .input-most, counted-most (s .value .heads .counts) (s .slots) (r .represents .stored .headed .counts-size));
       }
     where
-      calls : length (upToZero (s .value .heads .counts)) ≤ 32
-      calls = omega (arith, count-most (s .value .heads .counts), r .represents .stored .headed .counts-size)
-
-      lines : r .lines ++ joined (slotLine (s .slots)) (length (upToZero (s .value .heads .counts))) ≡ fileLines input
+      lines : r .lines ++ countedLines (s .value .heads .counts) (s .slots) ≡ fileLines input
       lines =
           ap (λ (l : List ℕ). r .lines ++ l) (counted-lines (r .ledger) s (r .shape .board) (r .represents))
           ∙ ap (λ (ds : List Decoded). r .lines ++ linesFrom (r .ledger) ds) (sym (reads-end (r .most) input (p .at) last))

@@ -20,9 +20,9 @@ use Rattle.model.specs.Sheet.{refusedLine, decisionLine, fileRefusal, readLine,
 use Rattle.model.specs.Laws.Shapes.{effect-shape, counts-most}
 use Rattle.lines.specs.Append.{Appended, append-none, append-same}
 use Rattle.sheet.specs.declared.turn.Progress.{Progress}
-use Rattle.sheet.specs.Line.{answerLine, LineAppended}
-use Rattle.sheet.specs.Turn.{ledgerAfter, lineOf, placeBy, placeAfter, Turned}
-use Rattle.sheet.specs.Laws.Answers.{answer-line}
+use Rattle.sheet.specs.Line.{answerLine, ShortAnswer, LineAppended}
+use Rattle.sheet.specs.Turn.{ledgerAfter, lineOf, placeBy, placeAfter, Held, Turned}
+use Rattle.sheet.specs.Laws.Answers.{answer-line, answer-short}
 use Rattle.sheet.specs.Obeys.{Obeys}
 
 -- nothing is read at the end
@@ -88,7 +88,16 @@ turn-shape L s at shape = go (readAt s at .read) (readAt s at .counts) (counts-m
     go (found.Refused k n) ns most = rw (alone n L k n ns) shape
     go found.End ns most = shape
 
+-- what was obeyed on a state of some ledger has a short line
+pub held-short : {before after : State} {c : Command} {ns : List ℕ} {given : Answer} → Held before → Obeys before c ns given after → ShortAnswer given
+held-short {before} {after} {c} {ns} {given} h o =
+    answer-short (h .ledger) before after c ns (h .represents) given (o .promise .obeyed (h .ledger) (h .shape) (h .represents))
+
 -- THE CODE'S TURN, by what was read
+pub turned-same : {d x : Decoded} {end : ℕ} {p r : Progress} {before after : State} {old new : List ℕ} → d ≡ x
+    → Turned d end p before old r after new → Turned x end p before old r after new
+turned-same e t = rw e at t
+
 module _ (d : Decoded) (end : ℕ) (p : Progress) (before : State) (old : List ℕ) (r : Progress) where
   pub turned-command : (c : Command) → d .read ≡ found.Command c → (given : Answer) (after : State) (new : List ℕ) → r .at ≡ d .next
       → Obeys before c (d .counts) given after → LineAppended (answerLine c given) (p .place) old new (r .place) → Turned d end p before old r after new

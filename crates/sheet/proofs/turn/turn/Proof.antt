@@ -1,4 +1,7 @@
+-- By what was read: a command is obeyed and its answer gives the line; a refusal gives its own line; at the end nothing is written.
+use mathlib.Core.Path.{refl}
 use borrow.Author.Needs.{needs}
+use Rattle.sheet.specs.Laws.Turns.{held-short, turned-same, turned-command, turned-refused, turned-end}
 use Rattle.sheet.proofs.turn.turn.Statement.{statement}
 use Rattle.sheet.proofs.turn.turn.Tie as tie
 use Rattle.sheet.proofs.turn.turn.Reads as reads
@@ -22,7 +25,11 @@ obey-requires c κs = search needs
 
 -- src/turn.rt:41:17
 answer-line-requires : tie.Need-answer-line-requires
-answer-line-requires c κs = ?
+answer-line-requires c κs =
+    let obeyed = c .before .before .before .before .before .before .before .before in
+    let read = obeyed .before .before .before .before .before .before in
+    let start = read .before .before .before .before .before .before .before .before .before in
+    (start .pre .1, held-short (start .pre .0) (obeyed .obey .ensures))
 
 -- src/turn.rt:45:23
 enum-known-read-2 : tie.Need-enum-known-read-2
@@ -54,7 +61,13 @@ same-length-4 c = search needs
 
 -- src/turn.rt:19:1
 returns : tie.Need-returns
-returns c = ?
+returns c =
+    let line = c .before .before in
+    let obeyed = line .before .before .before .before .before .before .before .before .before in
+    let read = obeyed .before .before .before .before .before .before in
+    let decoded = read .before .before in
+    turned-same (decoded .decode .ensures)
+    (turned-command _ _ _ _ _ _ _ (read .read .given .1) _ _ _ refl (obeyed .obey .ensures) (line .answer-line .ensures))
 
 -- src/turn.rt:19:1
 same-length-5 : tie.Need-same-length-5
@@ -62,11 +75,16 @@ same-length-5 c = search needs
 
 -- src/turn.rt:19:1
 returns-2 : tie.Need-returns-2
-returns-2 c = ?
+returns-2 c =
+    let line = c .before .before in
+    let read = line .before .before .before in
+    turned-same (read .before .before .decode .ensures)
+    (turned-refused _ _ _ _ _ _ _ _ (read .read2 .given .1) _ refl (line .refusal-line .ensures))
 
 -- src/turn.rt:19:1
 returns-3 : tie.Need-returns-3
-returns-3 c = ?
+returns-3 c =
+    turned-same (c .before .before .decode .ensures) (turned-end _ _ _ _ _ _ (c .enum-told .given .1) refl refl)
 
 pub turn-spec : {M : Type 1} → statement M
 turn-spec =

@@ -1,0 +1,53 @@
+-- THE WHOLE SHEET from its parts: the lines of the input, and the last line behind them. Assumes nothing.
+use mathlib.Core.Path.{_≡_, refl, sym, ap, _∙_}
+use mathlib.Core.List.{List, [], _∷_, _++_}
+use Prim.Native.Nat.{ℕ, _+_, _≤_, _<_}
+use native.Mathlib.Omega.{arith}
+use lib.ListN.{length, drop, take-append-drop}
+use borrow.Author.Tests.{lt-ltb, le-ltb}
+use Rattle.model.specs.Sheet.{refusedLine, endLine, sheetOf}
+use Rattle.lines.specs.Append.{Appended, append-more, append-same}
+use Rattle.sheet.specs.declared.answer.Sheet.the-variants as answer
+use Rattle.sheet.specs.Promise.{SheetPromise}
+use Rattle.sheet.specs.Line.{LineAppended}
+use Rattle.sheet.specs.Lines.{fileLines, inputLines, Lined}
+
+module _ (input : List ℕ) {old new : List ℕ} {n : ℕ} where
+  -- "Input too long gives `r 0 2` and no command is run."
+  pub too-long : 32768 < length input → LineAppended (refusedLine 0 2) 0 old new n → Lined (inputLines input) old new n
+  unfolding inputLines
+  too-long long line = record { appended = rw (lt-ltb 32768 (length input) long) (line .appended); most = omega (arith, line .short) }
+
+  pub not-long : length input ≤ 32768 → Lined (fileLines input) old new n → Lined (inputLines input) old new n
+  unfolding inputLines
+  not-long short lined = rw (le-ltb 32768 (length input) short) lined
+
+-- bytes that are written at the start
+module _ (bytes old new : List ℕ) (n : ℕ) (a : Appended bytes 0 old new n) where
+  written-length : n ≡ length bytes
+  written-length = omega (arith, a .place)
+
+  written-start : new ≡ bytes ++ drop (length bytes) old
+  written-start =
+      sym (take-append-drop n new)
+      ∙ ap (λ (l : List ℕ). l ++ drop n new) (a .written)
+      ∙ ap (λ (l : List ℕ). bytes ++ l) (a .behind)
+      ∙ ap (λ (k : ℕ). bytes ++ drop k old) written-length
+
+module _ (input before : List ℕ) where
+  pub sheet-refused : length before < 363364 → SheetPromise input before (answer.Refused 1) before
+  sheet-refused short =
+      let e = lt-ltb (length before) 363364 short in
+      record { number = rw e refl; values = rw e refl; bytes = rw e refl }
+
+  pub sheet-written : (mid after : List ℕ) (place n : ℕ) → 363364 ≤ length before → Lined (inputLines input) before mid place → Appended endLine place mid after n
+      → SheetPromise input before (answer.Written n) after
+  unfolding inputLines fileLines
+  sheet-written mid after place n room lined last =
+      let e = le-ltb (length before) 363364 room in
+      let a : Appended (sheetOf input) 0 before after n = append-more (lined .appended) last in
+      record {
+        number = rw e refl;
+        values = rw e (ap (λ (k : ℕ). k ∷ []) (written-length (sheetOf input) before after n a));
+        bytes = rw e (written-start (sheetOf input) before after n a);
+      }
