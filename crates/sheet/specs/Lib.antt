@@ -3,4 +3,3 @@ pub mod Line
 pub mod Lines
 pub mod Turn
 pub mod Laws
-pub mod Obeys

@@ -3,7 +3,7 @@ use crate::turn::Progress;
 use model::value::Value;
 ghost use mathlib.Core.Path.{_≡_};
 ghost use lib.ListN.{length};
-ghost use Rattle.kinds.specs.Outcomes.{stateOf};
+ghost use Rattle.model.specs.Representation.{stateOf};
 ghost use Rattle.model.specs.Ledger.{fresh};
 ghost use Rattle.model.specs.Representation.{Represents};
 ghost use Rattle.lines.specs.Append.{Appended, Room};

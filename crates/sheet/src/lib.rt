@@ -9,7 +9,6 @@ ghost use Rattle.sheet.specs.Promise.{SheetPromise};
 ghost use Rattle.sheet.specs.Lines.{Fits, fileLines, inputLines, Lined};
 pub mod answer; // what the sheet answers
 mod line; // the line of a command
-mod stub;
 mod turn; // one command of the input
 mod file; // all of them, and the board's lines
 

@@ -2,7 +2,7 @@
 use model::command::Read;
 use model::value::Value;
 ghost use lib.ListN.{length};
-ghost use Rattle.kinds.specs.Outcomes.{stateOf};
+ghost use Rattle.model.specs.Representation.{stateOf};
 ghost use Rattle.model.specs.Commands.{readAt};
 ghost use Rattle.lines.specs.Append.{Room};
 ghost use Rattle.sheet.specs.Turn.{Held, Turned};
@@ -37,7 +37,7 @@ pub fn turn(
     match read {
         Read::Command(command) => {
             let counts = found.counts;
-            let outcome = crate::stub::obey(value, command, counts, rows, killers, slots);
+            let outcome = commands::obey(value, command, counts, rows, killers, slots);
             let answer = outcome.answer;
             let value = outcome.value;
             let place = crate::line::answer_line(out, place, command, answer);

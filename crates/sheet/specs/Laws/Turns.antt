@@ -23,7 +23,7 @@ use Rattle.sheet.specs.declared.turn.Progress.{Progress}
 use Rattle.sheet.specs.Line.{answerLine, ShortAnswer, LineAppended}
 use Rattle.sheet.specs.Turn.{ledgerAfter, lineOf, placeBy, placeAfter, Held, Turned}
 use Rattle.sheet.specs.Laws.Answers.{answer-line, answer-short}
-use Rattle.sheet.specs.Obeys.{Obeys}
+use Rattle.commands.specs.Obeys.{Obeys}
 
 -- nothing is read at the end
 pub reads-end : (n : ℕ) (s : List ℕ) (at : ℕ) → length s ≤ at → readsFrom n s at ≡ []

@@ -3,7 +3,7 @@ use mathlib.Core.Path.{refl, sym, _∙_}
 use Prim.Native.Nat.{_-_}
 use native.Mathlib.Omega.{arith}
 use lib.ListN.{length}
-use Rattle.kinds.specs.Outcomes.{stateOf}
+use Rattle.model.specs.Representation.{stateOf}
 use Rattle.sheet.specs.Turn.{Reached}
 use Rattle.sheet.specs.Laws.Progress.{reached-start, reached-held, reads-on, reached-turn, turn-room, end-room, reached-end}
 use Rattle.sheet.proofs.file.lines_on.Statement.{statement}
