@@ -3,34 +3,24 @@ use borrow.Author.Needs.{needs}
 use Rattle.sheet.specs.Laws.Whole.{too-long, not-long}
 use Rattle.sheet.proofs.input_lines.Statement.{statement}
 use Rattle.sheet.proofs.input_lines.Tie as tie
-use Rattle.sheet.proofs.input_lines.Reads as reads
-use Rattle.sheet.proofs.input_lines.Lts as lts
-use Rattle.sheet.proofs.file_lines.Reads as file-lines-reads
-use Rattle.sheet.proofs.line.refusal_line.Reads as refusal-line-reads
 
--- src/lib.rt:40:9
 refusal-line-requires : tie.Need-refusal-line-requires
 refusal-line-requires c κs = search needs
 
--- src/lib.rt:40:9
 same-length : tie.Need-same-length
 same-length c = search needs
 
--- src/lib.rt:40:9
 returns : tie.Need-returns
 returns c =
     let line = c .before .before in
     too-long _ (line .before .before .if1 .taken) (line .refusal-line .ensures)
 
--- src/lib.rt:42:5
 file-lines-requires : tie.Need-file-lines-requires
 file-lines-requires c κs = search needs
 
--- src/lib.rt:35:1
 same-length-2 : tie.Need-same-length-2
 same-length-2 c = search needs
 
--- src/lib.rt:35:1
 returns-2 : tie.Need-returns-2
 returns-2 c =
     let line = c .before .before in

@@ -3,16 +3,10 @@ use borrow.Author.Needs.{needs}
 use Rattle.sheet.specs.Laws.Calls.{counted, counted-room, counted-appended}
 use Rattle.sheet.proofs.file.board_lines.Statement.{statement}
 use Rattle.sheet.proofs.file.board_lines.Tie as tie
-use Rattle.sheet.proofs.file.board_lines.Reads as reads
-use Rattle.sheet.proofs.file.board_lines.Lts as lts
-use Rattle.lines.proofs.call_count.Reads as call-count-reads
-use Rattle.lines.proofs.call_lines.Reads as call-lines-reads
 
--- src/file.rt:21:9
 call-count-requires : tie.Need-call-count-requires
 call-count-requires c κs = search needs
 
--- src/file.rt:22:5
 call-lines-requires : tie.Need-call-lines-requires
 call-lines-requires c κs =
     let count = c .before in
@@ -20,11 +14,9 @@ call-lines-requires c κs =
     let n = count .call-count .ensures in
     (counted-room (s .args .counts .now) (s .pre .1 .0) _ n _ (s .pre .0), (s .pre .1 .1, counted (s .args .counts .now) (s .pre .1 .0) _ n))
 
--- src/file.rt:15:1
 same-length : tie.Need-same-length
 same-length c = search needs
 
--- src/file.rt:15:1
 returns : tie.Need-returns
 returns c =
     let line = c .before .before in

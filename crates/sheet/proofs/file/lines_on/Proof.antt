@@ -8,10 +8,6 @@ use Rattle.sheet.specs.Turn.{Reached}
 use Rattle.sheet.specs.Laws.Progress.{reached-start, reached-held, reads-on, reached-turn, turn-room, end-room, reached-end}
 use Rattle.sheet.proofs.file.lines_on.Statement.{statement}
 use Rattle.sheet.proofs.file.lines_on.Tie as tie
-use Rattle.sheet.proofs.file.lines_on.Reads as reads
-use Rattle.sheet.proofs.file.lines_on.Lts as lts
-use Rattle.sheet.proofs.file.board_lines.Reads as board-lines-reads
-use Rattle.sheet.proofs.turn.turn.Reads as turn-reads
 
 abbrev Inv-loop : tie.InvT-loop
 Inv-loop input out₀ rows₀ killers₀ slots₀ progress₀ out rows killers slots progress = Reached input progress (stateOf (progress .value) rows killers slots) out₀ out
@@ -19,11 +15,9 @@ Inv-loop input out₀ rows₀ killers₀ slots₀ progress₀ out rows killers s
 abbrev μ-loop : tie.MeasureT-loop
 μ-loop input out₀ rows₀ killers₀ slots₀ progress₀ out rows killers slots progress = length input - progress .at
 
--- src/file.rt:43:5
 loop-holds : tie.Need-loop-holds Inv-loop μ-loop
 loop-holds c = reached-start _ _ _ _ refl refl (c .before .before .before .before .before .pre .1)
 
--- src/file.rt:44:9
 turn-requires : tie.Need-turn-requires Inv-loop μ-loop
 turn-requires c κs =
     let test = c .before .before .before .before in
@@ -31,7 +25,6 @@ turn-requires c κs =
     let start = loop .before .before .before .before .before .before in
     (reached-held (loop .loop .inv), turn-room _ _ _ _ _ (loop .loop .inv) (start .pre .0) (test .if1 .taken))
 
--- src/file.rt:43:5
 loop-less : tie.Need-loop-less Inv-loop μ-loop
 loop-less c =
     let done = c .before .before .before .before .before .before .before .before in
@@ -39,7 +32,6 @@ loop-less c =
     let loop = test .before .before in
     omega (arith, test .if1 .taken, reads-on _ _ _ _ _ _ _ _ (loop .loop .inv) (test .if1 .taken) (done .turn .ensures))
 
--- src/file.rt:43:5
 loop-again : tie.Need-loop-again Inv-loop μ-loop
 loop-again c =
     let done = c .before .before .before .before .before .before .before .before in
@@ -47,7 +39,6 @@ loop-again c =
     let loop = test .before .before in
     reached-turn _ _ _ _ _ _ _ _ (loop .loop .inv) (test .if1 .taken) (done .turn .ensures)
 
--- src/file.rt:49:5
 board-lines-requires : tie.Need-board-lines-requires Inv-loop μ-loop
 board-lines-requires c κs =
     let test = c .before .before .before .before .before .before in
@@ -56,35 +47,30 @@ board-lines-requires c κs =
     let stored = loop .loop .inv .represents .stored in
     (end-room _ _ _ _ _ (loop .loop .inv) (start .pre .0), (stored .headed .counts-size, stored .slots-size))
 
--- src/file.rt:26:1
 same-length : tie.Need-same-length Inv-loop μ-loop
 same-length c =
     let line = c .before .before in
     let loop = line .before .before .before .before .before .before .before .before .before in
     line .board-lines .ensures .size ∙ loop .loop .inv .appended .size
 
--- src/file.rt:26:1
 same-length-2 : tie.Need-same-length-2 Inv-loop μ-loop
 same-length-2 c =
     let loop = c .before .before .before .before .before .before .before .before .before .before .before in
     let start = loop .before .before .before .before .before .before in
     loop .loop .inv .represents .stored .row-bytes .rows-size ∙ sym (start .pre .1 .stored .row-bytes .rows-size)
 
--- src/file.rt:26:1
 same-length-3 : tie.Need-same-length-3 Inv-loop μ-loop
 same-length-3 c =
     let loop = c .before .before .before .before .before .before .before .before .before .before .before in
     let start = loop .before .before .before .before .before .before in
     loop .loop .inv .represents .stored .killers-size ∙ sym (start .pre .1 .stored .killers-size)
 
--- src/file.rt:26:1
 same-length-4 : tie.Need-same-length-4 Inv-loop μ-loop
 same-length-4 c =
     let loop = c .before .before .before .before .before .before .before .before .before .before .before in
     let start = loop .before .before .before .before .before .before in
     loop .loop .inv .represents .stored .slots-size ∙ sym (start .pre .1 .stored .slots-size)
 
--- src/file.rt:26:1
 returns : tie.Need-returns Inv-loop μ-loop
 returns c =
     let line = c .before .before in

@@ -8,12 +8,6 @@ use Rattle.sheet.specs.Line.{ShortAnswer}
 use Rattle.sheet.specs.Laws.Short.{acceptance-most, acceptance-appended}
 use Rattle.sheet.proofs.line.answer_line.Statement.{statement}
 use Rattle.sheet.proofs.line.answer_line.Tie as tie
-use Rattle.sheet.proofs.line.answer_line.Reads as reads
-use Rattle.sheet.proofs.line.answer_line.Lts as lts
-use Rattle.lines.proofs.accepted_line.Reads as accepted-line-reads
-use Rattle.sheet.proofs.line.kind_of.Reads as kind-of-reads
-use Rattle.sheet.proofs.line.refusal_line.Reads as refusal-line-reads
-use Rattle.sheet.proofs.line.wide.Reads as wide-reads
 
 kind-of-requires : tie.Need-kind-of-requires
 kind-of-requires c κs = search needs

@@ -5,10 +5,6 @@ use Rattle.lines.specs.Append.{room-less}
 use Rattle.sheet.specs.Laws.Short.{refusal-most, refusal-appended}
 use Rattle.sheet.proofs.line.refusal_line.Statement.{statement}
 use Rattle.sheet.proofs.line.refusal_line.Tie as tie
-use Rattle.sheet.proofs.line.refusal_line.Reads as reads
-use Rattle.sheet.proofs.line.refusal_line.Lts as lts
-use Rattle.lines.proofs.refused_line.Reads as refused-line-reads
-use Rattle.sheet.proofs.line.wide.Reads as wide-reads
 
 wide-requires : tie.Need-wide-requires
 wide-requires c κs = search needs

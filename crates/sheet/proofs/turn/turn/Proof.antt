@@ -4,26 +4,16 @@ use borrow.Author.Needs.{needs}
 use Rattle.sheet.specs.Laws.Turns.{held-short, turned-same, turned-command, turned-refused, turned-end}
 use Rattle.sheet.proofs.turn.turn.Statement.{statement}
 use Rattle.sheet.proofs.turn.turn.Tie as tie
-use Rattle.sheet.proofs.turn.turn.Reads as reads
-use Rattle.sheet.proofs.turn.turn.Lts as lts
-use Rattle.decode.proofs.decode.Reads as decode-reads
-use Rattle.sheet.proofs.line.answer_line.Reads as answer-line-reads
-use Rattle.sheet.proofs.line.refusal_line.Reads as refusal-line-reads
-use Rattle.sheet.proofs.stub.obey.Reads as obey-reads
 
--- src/turn.rt:33:9
 decode-requires : tie.Need-decode-requires
 decode-requires c κs = search needs
 
--- src/turn.rt:36:23
 enum-known-read : tie.Need-enum-known-read
 enum-known-read c = search needs
 
--- src/turn.rt:38:17
 obey-requires : tie.Need-obey-requires
 obey-requires c κs = search needs
 
--- src/turn.rt:41:17
 answer-line-requires : tie.Need-answer-line-requires
 answer-line-requires c κs =
     let obeyed = c .before .before .before .before .before .before .before .before in
@@ -31,35 +21,27 @@ answer-line-requires c κs =
     let start = read .before .before .before .before .before .before .before .before .before in
     (start .pre .1, held-short (start .pre .0) (obeyed .obey .ensures))
 
--- src/turn.rt:45:23
 enum-known-read-2 : tie.Need-enum-known-read-2
 enum-known-read-2 c = search needs
 
--- src/turn.rt:46:17
 refusal-line-requires : tie.Need-refusal-line-requires
 refusal-line-requires c κs = search needs
 
--- src/turn.rt:51:17
 enum-told : tie.Need-enum-told
 enum-told c = search needs
 
--- src/turn.rt:19:1
 same-length : tie.Need-same-length
 same-length c = search needs
 
--- src/turn.rt:19:1
 same-length-2 : tie.Need-same-length-2
 same-length-2 c = search needs
 
--- src/turn.rt:19:1
 same-length-3 : tie.Need-same-length-3
 same-length-3 c = search needs
 
--- src/turn.rt:19:1
 same-length-4 : tie.Need-same-length-4
 same-length-4 c = search needs
 
--- src/turn.rt:19:1
 returns : tie.Need-returns
 returns c =
     let line = c .before .before in
@@ -69,11 +51,9 @@ returns c =
     turned-same (decoded .decode .ensures)
     (turned-command _ _ _ _ _ _ _ (read .read .given .1) _ _ _ refl (obeyed .obey .ensures) (line .answer-line .ensures))
 
--- src/turn.rt:19:1
 same-length-5 : tie.Need-same-length-5
 same-length-5 c = search needs
 
--- src/turn.rt:19:1
 returns-2 : tie.Need-returns-2
 returns-2 c =
     let line = c .before .before in
@@ -81,7 +61,6 @@ returns-2 c =
     turned-same (read .before .before .decode .ensures)
     (turned-refused _ _ _ _ _ _ _ _ (read .read2 .given .1) _ refl (line .refusal-line .ensures))
 
--- src/turn.rt:19:1
 returns-3 : tie.Need-returns-3
 returns-3 c =
     turned-same (c .before .before .decode .ensures) (turned-end _ _ _ _ _ _ (c .enum-told .given .1) refl refl)
