@@ -1,14 +1,19 @@
 -- THE WHOLE SHEET from its parts: the lines of the input, and the last line behind them. Assumes nothing.
 use mathlib.Core.Path.{_≡_, refl, sym, ap, _∙_}
+use mathlib.Core.Bool.{Bool, true, false, cond}
 use mathlib.Core.List.{List, [], _∷_, _++_}
 use Prim.Native.Nat.{ℕ, _+_, _≤_, _<_}
 use native.Mathlib.Omega.{arith}
-use lib.ListN.{length, drop, take-append-drop}
+use lib.ListN.{length, take, drop, length-append, take-append-drop}
+use lib.Seq.{length-take-le}
+use lib.Dec.{ltb}
 use borrow.Author.Tests.{lt-ltb, le-ltb}
+use Rattle.model.specs.Promise.{valuesAt}
 use Rattle.model.specs.Sheet.{refusedLine, endLine, sheetOf}
 use Rattle.lines.specs.Append.{Appended, append-more, append-same}
+use Rattle.sheet.specs.declared.answer.Sheet.{Sheet}
 use Rattle.sheet.specs.declared.answer.Sheet.the-variants as answer
-use Rattle.sheet.specs.Promise.{SheetPromise}
+use Rattle.sheet.specs.Promise.{numberOf, valuesOf, SheetPromise}
 use Rattle.sheet.specs.Line.{LineAppended}
 use Rattle.sheet.specs.Lines.{fileLines, inputLines, Lined}
 
@@ -51,3 +56,19 @@ module _ (input before : List ℕ) where
         values = rw e (ap (λ (k : ℕ). k ∷ []) (written-length (sheetOf input) before after n a));
         bytes = rw e (written-start (sheetOf input) before after n a);
       }
+
+-- WHAT IS WRITTEN LIES IN THE BUFFER, for whoever calls
+module _ {input before : List ℕ} {given : Sheet} {after : List ℕ} (p : SheetPromise input before given after) {n : ℕ} (is : given ≡ answer.Written n) where
+  pub written-fits : n ≤ length after
+  written-fits = go (ltb (length before) 363364) (ap numberOf (sym is) ∙ p .number) (ap valuesOf (sym is) ∙ p .values) (p .bytes)
+    where
+      fits : (sheet : List ℕ) → n ∷ [] ≡ length sheet ∷ [] → after ≡ sheet ++ drop (length sheet) before → n ≤ length after
+      fits sheet v b = let same : n ≡ length sheet = cc in omega (arith, ap length b, length-append sheet (drop (length sheet) before))
+
+      go : (short : Bool) → _≡_ {A = ℕ} 0 (cond short 1 0) → n ∷ [] ≡ valuesAt (cond short 1 0) (length (sheetOf input) ∷ [])
+          → after ≡ cond short before (sheetOf input ++ drop (length (sheetOf input)) before) → n ≤ length after
+      go true e v b = absurd (omega arith)
+      go false e v b = fits (sheetOf input) v b
+
+  pub written-part : n ≡ length (take n after)
+  written-part = sym (length-take-le n after written-fits)
