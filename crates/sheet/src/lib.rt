@@ -7,6 +7,7 @@ ghost use Prim.Native.Nat.{_≤_};
 ghost use lib.ListN.{length};
 ghost use Rattle.sheet.specs.Promise.{SheetPromise};
 ghost use Rattle.sheet.specs.Lines.{Fits, fileLines, inputLines, Lined};
+
 pub mod answer; // what the sheet answers
 mod line; // the line of a command
 mod turn; // one command of the input

@@ -42,11 +42,10 @@ module _ (before after : List ℕ) (q : Report) where
   silent r = record { struck = omega (arith, r .struck); reopened = omega (arith, r .reopened); one = inl (r .struck) }
 
   changed : Changed before after q → (q .struck ≤ 1024) × (q .reopened ≤ 1024)
-  changed r =
-      (
-        subst (λ (n : ℕ). n ≤ 1024) (sym (r .struck)) (slots-most (λ c s. open? before c s && struck? after c s)),
-        subst (λ (n : ℕ). n ≤ 1024) (sym (r .reopened)) (slots-most (λ c s. struck? before c s && open? after c s)),
-      )
+  changed r = (
+    subst (λ (n : ℕ). n ≤ 1024) (sym (r .struck)) (slots-most (λ c s. open? before c s && struck? after c s)),
+    subst (λ (n : ℕ). n ≤ 1024) (sym (r .reopened)) (slots-most (λ c s. struck? before c s && open? after c s)),
+  )
 
   reported-short : (c : Command) → Reports c before after q → ShortAnswer (answer.Accepted q)
   reported-short kind.Board r = silent r

@@ -19,7 +19,7 @@ wide-requires : tie.Need-wide-requires
 wide-requires c κs = search needs
 
 accepted-line-requires : tie.Need-accepted-line-requires
-accepted-line-requires c κs = 
+accepted-line-requires c κs =
     let w = c .before in
     let known = w .before .before in
     let s = known .before .before .before .before in
