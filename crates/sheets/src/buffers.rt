@@ -1,5 +1,4 @@
 // What is written in the buffer that is lent, and what is not.
-use sheet::answer::Sheet;
 ghost use Prim.Native.Nat.{_≤_};
 
 fn same(x: u8, b: u8) -> usize
@@ -19,25 +18,11 @@ fn count_from(s: &[u8], place: usize, b: u8) -> usize {
     n
 }
 
-// The answer in numbers: the refusal, or 0 and the length.
-fn answered(answer: Sheet) -> usize {
-    match answer {
-        Sheet::Written(n) => {
-            crate::write::numbered(b"written ", n);
-            n
-        }
-        Sheet::Refused(n) => {
-            crate::write::numbered(b"refused ", n as usize);
-            0
-        }
-    }
-}
-
 // One byte short: refused, and no byte is written.
 pub fn short_buffer(input: &[u8]) {
     let mut out = [7u8; 363363];
     crate::write::line(b"a buffer of 363363 bytes");
-    let n = answered(sheet::sheet(input, &mut out));
+    let n = crate::write::made(input, &mut out);
     crate::write::numbered(b"as before ", count_from(&out, n, 7));
 }
 
@@ -45,6 +30,6 @@ pub fn short_buffer(input: &[u8]) {
 pub fn long_buffer(input: &[u8]) {
     let mut out = [7u8; 363400];
     crate::write::line(b"a buffer of 363400 bytes");
-    let n = answered(sheet::sheet(input, &mut out));
+    let n = crate::write::made(input, &mut out);
     crate::write::numbered(b"as before ", count_from(&out, n, 7));
 }

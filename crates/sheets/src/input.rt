@@ -41,13 +41,20 @@ pub fn put_text(input: &mut [u8], place: usize, text: &[u8]) -> usize {
     put_mark(input, at, b' ')
 }
 
+// Bytes as they are.
+fn put_bytes(input: &mut [u8], place: usize, bytes: &[u8]) -> usize {
+    let mut next = place;
+    let mut i = 0;
+    while i < bytes.len() {
+        next = put_byte(input, next, bytes[i]);
+        i += 1;
+    }
+    next
+}
+
 // A row of two columns.
 fn put_row(input: &mut [u8], place: usize, s: u8, t: u8) -> usize {
-    let a = put_byte(input, place, 3);
-    let b = put_byte(input, a, s);
-    let c = put_byte(input, b, t);
-    let d = put_byte(input, c, 255);
-    put_byte(input, d, 255)
+    put_bytes(input, place, &[3, s, t, 255, 255])
 }
 
 fn slot_of(i: u8, square: bool) -> u8 {
@@ -69,20 +76,10 @@ pub fn put_rows(input: &mut [u8], place: usize, n: u8, square: bool) -> usize {
     next
 }
 
-// A head of two columns.
-fn put_head(input: &mut [u8], place: usize, number: u8, x: u8, y: u8) -> usize {
-    let a = put_byte(input, place, 2);
-    let b = put_byte(input, a, number);
-    let c = put_byte(input, b, 2);
-    let d = put_byte(input, c, x);
-    let e = put_byte(input, d, y);
-    let f = put_byte(input, e, 255);
-    put_byte(input, f, 255)
-}
-
 // Rule c joins calls c and c + 1, slot by slot, and comes into force.
 fn put_link(input: &mut [u8], place: usize, c: u8) -> usize {
-    let a = put_head(input, place, c % 32, c % 32, c % 32 + 1);
+    let p = c % 32;
+    let a = put_bytes(input, place, &[2, p, 2, p, p + 1, 255, 255]);
     let b = put_rows(input, a, 32, false);
     put_byte(input, b, 4)
 }

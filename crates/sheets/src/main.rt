@@ -24,11 +24,7 @@ fn files() {
     raw(b"empty input", b"");
     raw(b"kind 0", b"0");
     raw(b"kind 255", b"255; 4");
-    on_board(
-        b"kind 6 in the middle",
-        b"2",
-        b"2 0 1 0 255 255 255; 6; 4",
-    );
+    on_board(b"kind 6 in the middle", b"2", b"2 0 1 0 255 255 255; 6; 4");
     raw(b"board cut short", b"1 2 0");
     on_board(b"head cut by one byte", b"2", b"2 0 1 0 255 255");
     on_board(b"row cut short", b"2 3", b"2 0 2 0 1 255 255; 3 0");
@@ -41,10 +37,7 @@ fn boards() {
     on_board(b"count 33", b"1 33", b"");
     on_board(b"count after a 0", b"1 0 1", b"");
     on_board(b"count 32", b"32", b"");
-    raw(
-        b"no board",
-        b"2 0 1 0 255 255 255; 3 0 255 255 255; 4; 5 0",
-    );
+    raw(b"no board", b"2 0 1 0 255 255 255; 3 0 255 255 255; 4; 5 0");
 }
 
 // Refusals 7 to 15.
@@ -69,22 +62,14 @@ fn drafts() {
 // Refusals 7, 12, 16 and 17; a draft whose number is in force is kept.
 fn changes() {
     on_board(b"put without a draft", b"2", b"4");
-    on_board(
-        b"lift of no rule",
-        b"2",
-        b"5 0; 5 63; 5 64; 5 255",
-    );
+    on_board(b"lift of no rule", b"2", b"5 0; 5 63; 5 64; 5 255");
     on_board(
         b"number in force",
         b"2 2",
         b"2 0 1 0 255 255 255; 4; 2 0 1 1 255 255 255; 4; 5 0; 4; 4",
     );
     on_board(b"nothing open", b"2 3", b"2 0 1 0 255 255 255; 4");
-    on_board(
-        b"and lifted",
-        b"2 3",
-        b"2 0 1 0 255 255 255; 4; 5 0",
-    );
+    on_board(b"and lifted", b"2 3", b"2 0 1 0 255 255 255; 4; 5 0");
     on_board(
         b"a second board",
         b"2 2",
