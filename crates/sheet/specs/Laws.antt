@@ -1,6 +1,5 @@
-pub mod Short
-pub mod Calls
+pub mod Line
 pub mod Answers
-pub mod Turns
-pub mod Progress
+pub mod Turn
+pub mod File
 pub mod Whole

@@ -1,4 +1,4 @@
--- The line of a command, read off its answer.
+-- THE LINE OF A COMMAND, read off its answer: "`a K S R` when accepted, `r K N` when refused".
 use mathlib.Core.Path.{_≡_}
 use mathlib.Core.List.{List}
 use mathlib.Core.Logic.{_⊎_}
@@ -9,11 +9,6 @@ use Rattle.model.specs.declared.command.Command.{Command}
 use Rattle.model.specs.Commands.{kindOf}
 use Rattle.model.specs.Sheet.{acceptedLine, refusedLine}
 use Rattle.lines.specs.Append.{Appended}
-
--- a byte as a number
-pub record Wide (b r : ℕ) : Type 0 where
-  pub same : r ≡ b
-  pub most : r ≤ 255
 
 -- the line that an answer gives
 abbrev pub answerLine : Command → Answer → List ℕ
@@ -35,7 +30,12 @@ pub record ShortAnswer (given : Answer) : Type 0 where
   pub reopened : reopenedIn given ≤ 1024
   pub one : (struckIn given ≡ 0) ⊎ (reopenedIn given ≡ 0)
 
--- one line is appended: no line of a command is longer than 11 bytes
+-- one line is appended: none of a command is longer than 11 bytes
 pub record LineAppended (bytes : List ℕ) (place : ℕ) (old new : List ℕ) (r : ℕ) : Type 0 where
   pub appended : Appended bytes place old new r
   pub short : r ≤ place + 11
+
+-- a byte as a number
+pub record Wide (b r : ℕ) : Type 0 where
+  pub same : r ≡ b
+  pub most : r ≤ 255

@@ -19,12 +19,11 @@ abbrev pub valuesOf : Sheet → List ℕ
 valuesOf (answer.Written n) = n ∷ []
 valuesOf (answer.Refused n) = []
 
--- "1 a buffer isn't of its length": here, it is shorter than the longest sheet
-abbrev pub refusalOf : List ℕ → ℕ
-refusalOf before = cond (ltb (length before) 363364) 1 0
-
--- the buffer holds `before`, and then `after`. A refusal writes nothing; otherwise the sheet stands at the buffer's start, and what is behind it is as it was
+-- the buffer held `before`, and now holds `after`
 pub record SheetPromise (input before : List ℕ) (given : Sheet) (after : List ℕ) : Type 0 where
-  pub number : numberOf given ≡ refusalOf before
-  pub values : valuesOf given ≡ valuesAt (refusalOf before) (length (sheetOf input) ∷ [])
+  -- "1 a buffer isn't of its length": here, it is too short for the longest sheet
+  pub number : numberOf given ≡ cond (ltb (length before) 363364) 1 0
+  -- "`berthsheet` reads standard input. Per command it writes .. the last line is always the three letters `end`": all of it is model's sheetOf
+  pub values : valuesOf given ≡ valuesAt (cond (ltb (length before) 363364) 1 0) (length (sheetOf input) ∷ [])
+  -- "A refusal changes no byte of the buffers"; otherwise the sheet stands at the start, and what is behind it is as it was
   pub bytes : after ≡ cond (ltb (length before) 363364) before (sheetOf input ++ drop (length (sheetOf input)) before)

@@ -1,7 +1,7 @@
 // What the sheet answers.
 pub enum Sheet {
-    // so many bytes were written
+    // the length of what was written
     Written(usize),
-    // the refusal's number: 1
+    // the refusal's number
     Refused(u8),
 }

@@ -1,15 +1,14 @@
-// All commands of an input, one after another, and then the lines of the board.
+// The lines of an input that is not too long: those of its commands, one after another, and then those of the board.
 use crate::turn::Progress;
 use model::value::Value;
 ghost use mathlib.Core.Path.{_≡_};
 ghost use lib.ListN.{length};
-ghost use Rattle.model.specs.Representation.{stateOf};
 ghost use Rattle.model.specs.Ledger.{fresh};
-ghost use Rattle.model.specs.Representation.{Represents};
+ghost use Rattle.model.specs.Representation.{stateOf, Represents};
 ghost use Rattle.lines.specs.Append.{Appended, Room};
-ghost use Rattle.sheet.specs.Lines.{Fits, fileLines, countedLines, Lined};
+ghost use Rattle.sheet.specs.File.{fileLines, countedLines, Fits, Lined};
 
-// The lines of the calls that the counts give: at most 32 of 91 bytes.
+// The lines of the board, whose calls have these counts: at most 32 lines of 91 bytes.
 fn board_lines(out: &mut [u8], place: usize, counts: &[u8; 32], slots: &[u8]) -> usize
     requires { ⌜ Room place 2912 (now out) ⌝ }
     requires { ⌜ length (now counts) ≡ 32 ⌝ }
@@ -21,7 +20,7 @@ fn board_lines(out: &mut [u8], place: usize, counts: &[u8; 32], slots: &[u8]) ->
 }
 
 // On a value and buffers that are fresh.
-pub fn lines_on(
+fn fresh_lines(
     value: Value,
     input: &[u8],
     out: &mut [u8],
@@ -35,14 +34,25 @@ pub fn lines_on(
 {
     let mut progress = Progress {
         value,
-        at: 0,
-        place: 0,
+        read: 0,
+        written: 0,
     };
-    while progress.at < input.len() {
+    while progress.read < input.len() {
         progress = crate::turn::turn(progress, input, out, rows, killers, slots);
     }
     let end = progress.value;
     let heads = end.heads;
     let counts = heads.counts;
-    board_lines(out, progress.place, &counts, slots)
+    board_lines(out, progress.written, &counts, slots)
+}
+
+pub fn file_lines(input: &[u8], out: &mut [u8]) -> usize
+    requires { ⌜ Fits (now input) (now out) ⌝ }
+    ensures { λ r. ⌜ Lined (fileLines (now (input .entry))) (now (out .entry)) (now (out .exit)) r ⌝ }
+{
+    let mut rows = [255u8; 16384];
+    let mut killers = [255u8; 4096];
+    let mut slots = [254u8; 1024];
+    let value = Value::fresh();
+    fresh_lines(value, input, out, &mut rows, &mut killers, &mut slots)
 }

@@ -1,8 +1,7 @@
-// The line of a command: by its kind and its answer.
+// The line of a command, by its kind and its answer: at most 11 bytes.
 use model::answer::Answer;
 use model::command::Command;
 ghost use mathlib.Core.Path.{_≡_};
-ghost use Prim.Native.Nat.{_≤_};
 ghost use Rattle.model.specs.Commands.{kindOf};
 ghost use Rattle.model.specs.Sheet.{refusedLine};
 ghost use Rattle.lines.specs.Append.{Room};

@@ -10,13 +10,14 @@ use lib.Dec.{ltb}
 use borrow.Author.Tests.{lt-ltb, le-ltb}
 use Rattle.model.specs.Promise.{valuesAt}
 use Rattle.model.specs.Sheet.{refusedLine, endLine, sheetOf}
-use Rattle.lines.specs.Append.{Appended, append-more, append-same}
+use Rattle.lines.specs.Append.{Appended, append-more}
 use Rattle.sheet.specs.declared.answer.Sheet.{Sheet}
 use Rattle.sheet.specs.declared.answer.Sheet.the-variants as answer
 use Rattle.sheet.specs.Promise.{numberOf, valuesOf, SheetPromise}
 use Rattle.sheet.specs.Line.{LineAppended}
-use Rattle.sheet.specs.Lines.{fileLines, inputLines, Lined}
+use Rattle.sheet.specs.File.{fileLines, inputLines, Lined}
 
+-- the lines of an input that is too long, and of one that is not
 module _ (input : List ℕ) {old new : List ℕ} {n : ℕ} where
   -- "Input too long gives `r 0 2` and no command is run."
   pub too-long : 32768 < length input → LineAppended (refusedLine 0 2) 0 old new n → Lined (inputLines input) old new n
@@ -39,6 +40,7 @@ module _ (bytes old new : List ℕ) (n : ℕ) (a : Appended bytes 0 old new n) w
       ∙ ap (λ (l : List ℕ). bytes ++ l) (a .behind)
       ∙ ap (λ (k : ℕ). bytes ++ drop k old) written-length
 
+-- the promise where the buffer is too short, and where it is not
 module _ (input before : List ℕ) where
   pub sheet-refused : length before < 363364 → SheetPromise input before (answer.Refused 1) before
   sheet-refused short =

@@ -5,7 +5,7 @@ use borrow.Author.Needs.{needs}
 use Rattle.model.specs.declared.answer.Answer.the-variants as answer
 use Rattle.lines.specs.Append.{room-less}
 use Rattle.sheet.specs.Line.{ShortAnswer}
-use Rattle.sheet.specs.Laws.Short.{acceptance-most, acceptance-appended}
+use Rattle.sheet.specs.Laws.Line.{acceptance-most, acceptance-appended}
 use Rattle.sheet.proofs.line.answer_line.Statement.{statement}
 use Rattle.sheet.proofs.line.answer_line.Tie as tie
 

@@ -2,7 +2,7 @@
 use native.Mathlib.Omega.{arith}
 use borrow.Author.Needs.{needs}
 use Rattle.lines.specs.Append.{room-less}
-use Rattle.sheet.specs.Laws.Short.{refusal-most, refusal-appended}
+use Rattle.sheet.specs.Laws.Line.{refusal-most, refusal-appended}
 use Rattle.sheet.proofs.line.refusal_line.Statement.{statement}
 use Rattle.sheet.proofs.line.refusal_line.Tie as tie
 

@@ -1,19 +1,20 @@
 -- The loop keeps what `Reached` says: what is written and what is left to be written are all of the lines. A turn reads on, so the measure falls.
-use mathlib.Core.Path.{refl, sym, _∙_}
+use mathlib.Core.Path.{refl}
 use Prim.Native.Nat.{_-_}
 use native.Mathlib.Omega.{arith}
 use lib.ListN.{length}
+use borrow.Author.Needs.{needs}
 use Rattle.model.specs.Representation.{stateOf}
-use Rattle.sheet.specs.Turn.{Reached}
-use Rattle.sheet.specs.Laws.Progress.{reached-start, reached-held, reads-on, reached-turn, turn-room, end-room, reached-end}
-use Rattle.sheet.proofs.file.lines_on.Statement.{statement}
-use Rattle.sheet.proofs.file.lines_on.Tie as tie
+use Rattle.sheet.specs.File.{Reached}
+use Rattle.sheet.specs.Laws.File.{reached-start, reached-held, reads-on, reached-turn, turn-room, board-room, reached-end}
+use Rattle.sheet.proofs.file.fresh_lines.Statement.{statement}
+use Rattle.sheet.proofs.file.fresh_lines.Tie as tie
 
 abbrev Inv-loop : tie.InvT-loop
 Inv-loop input out₀ rows₀ killers₀ slots₀ progress₀ out rows killers slots progress = Reached input progress (stateOf (progress .value) rows killers slots) out₀ out
 
 abbrev μ-loop : tie.MeasureT-loop
-μ-loop input out₀ rows₀ killers₀ slots₀ progress₀ out rows killers slots progress = length input - progress .at
+μ-loop input out₀ rows₀ killers₀ slots₀ progress₀ out rows killers slots progress = length input - progress .read
 
 loop-holds : tie.Need-loop-holds Inv-loop μ-loop
 loop-holds c = reached-start _ _ _ _ refl refl (c .before .before .before .before .before .pre .1)
@@ -45,31 +46,19 @@ board-lines-requires c κs =
     let loop = test .before .before in
     let start = loop .before .before .before .before .before .before in
     let stored = loop .loop .inv .represents .stored in
-    (end-room _ _ _ _ _ (loop .loop .inv) (start .pre .0), (stored .headed .counts-size, stored .slots-size))
+    (board-room _ _ _ _ _ (loop .loop .inv) (start .pre .0), (stored .headed .counts-size, stored .slots-size))
 
 same-length : tie.Need-same-length Inv-loop μ-loop
-same-length c =
-    let line = c .before .before in
-    let loop = line .before .before .before .before .before .before .before .before .before in
-    line .board-lines .ensures .size ∙ loop .loop .inv .appended .size
+same-length c = search needs
 
 same-length-2 : tie.Need-same-length-2 Inv-loop μ-loop
-same-length-2 c =
-    let loop = c .before .before .before .before .before .before .before .before .before .before .before in
-    let start = loop .before .before .before .before .before .before in
-    loop .loop .inv .represents .stored .row-bytes .rows-size ∙ sym (start .pre .1 .stored .row-bytes .rows-size)
+same-length-2 c = search needs
 
 same-length-3 : tie.Need-same-length-3 Inv-loop μ-loop
-same-length-3 c =
-    let loop = c .before .before .before .before .before .before .before .before .before .before .before in
-    let start = loop .before .before .before .before .before .before in
-    loop .loop .inv .represents .stored .killers-size ∙ sym (start .pre .1 .stored .killers-size)
+same-length-3 c = search needs
 
 same-length-4 : tie.Need-same-length-4 Inv-loop μ-loop
-same-length-4 c =
-    let loop = c .before .before .before .before .before .before .before .before .before .before .before in
-    let start = loop .before .before .before .before .before .before in
-    loop .loop .inv .represents .stored .slots-size ∙ sym (start .pre .1 .stored .slots-size)
+same-length-4 c = search needs
 
 returns : tie.Need-returns Inv-loop μ-loop
 returns c =
@@ -79,8 +68,8 @@ returns c =
     let start = loop .before .before .before .before .before .before in
     reached-end _ _ _ _ _ (loop .loop .inv) (start .pre .0) (test .if1 .left) _ _ (line .board-lines .ensures)
 
-pub lines-on-spec : {M : Type 1} → statement M
-lines-on-spec =
+pub fresh-lines-spec : {M : Type 1} → statement M
+fresh-lines-spec =
     tie.close
     (tie.spec
     Inv-loop
