@@ -1,5 +1,8 @@
 // The lines of an input that is not too long: those of its commands, one after another, and then those of the board.
 use crate::turn::Progress;
+use model::value::KILLERS;
+use model::value::ROWS;
+use model::value::SLOTS;
 use model::value::Value;
 ghost use mathlib.Core.Path.{_≡_};
 ghost use lib.ListN.{length};
@@ -50,9 +53,9 @@ pub fn file_lines(input: &[u8], out: &mut [u8]) -> usize
     requires { ⌜ Fits (now input) (now out) ⌝ }
     ensures { λ r. ⌜ Lined (fileLines (now (input .entry))) (now (out .entry)) (now (out .exit)) r ⌝ }
 {
-    let mut rows = [255u8; 16384];
-    let mut killers = [255u8; 4096];
-    let mut slots = [254u8; 1024];
+    let mut rows = [255u8; ROWS];
+    let mut killers = [255u8; KILLERS];
+    let mut slots = [254u8; SLOTS];
     let value = Value::fresh();
     fresh_lines(value, input, out, &mut rows, &mut killers, &mut slots)
 }

@@ -1,11 +1,6 @@
 -- An accepted answer gives the line of its S and R, a refused one that of its number.
-use mathlib.Core.Path.{_∙_}
-use native.Mathlib.Omega.{arith}
 use borrow.Author.Needs.{needs}
-use Rattle.model.specs.declared.answer.Answer.the-variants as answer
-use Rattle.lines.specs.Append.{room-less}
-use Rattle.sheet.specs.Line.{ShortAnswer}
-use Rattle.sheet.specs.Laws.Line.{acceptance-most, acceptance-appended}
+use Rattle.sheet.specs.Laws.Line.{acceptance-asks, acceptance-appended}
 use Rattle.sheet.proofs.line.answer_line.Statement.{statement}
 use Rattle.sheet.proofs.line.answer_line.Tie as tie
 
@@ -22,11 +17,9 @@ accepted-line-requires : tie.Need-accepted-line-requires
 accepted-line-requires c κs =
     let w = c .before in
     let known = w .before .before in
-    let s = known .before .before .before .before in
-    let q = known .answer .given .0 .0 in
-    let short : ShortAnswer (answer.Accepted q) = rw (known .answer .given .1) at (s .pre .1) in
-    let same = w .wide .ensures .same ∙ known .before .before .kind-of .ensures in
-    (room-less (s .pre .0) (acceptance-most (s .args .command) q same short), (omega (arith, w .wide .ensures .most), (omega (arith, short .struck), omega (arith, short .reopened))))
+    let kind = known .before .before in
+    let s = kind .before .before in
+    acceptance-asks (s .args .command) (known .answer .given .1) (s .pre .1) (w .wide .ensures) (kind .kind-of .ensures) (s .pre .0)
 
 enum-known-answer-2 : tie.Need-enum-known-answer-2
 enum-known-answer-2 c = search needs
@@ -42,11 +35,9 @@ returns c =
     let line = c .before .before in
     let w = line .before .before in
     let known = w .before .before in
-    let s = known .before .before .before .before in
-    let q = known .answer .given .0 .0 in
-    let short : ShortAnswer (answer.Accepted q) = rw (known .answer .given .1) at (s .pre .1) in
-    let same = w .wide .ensures .same ∙ known .before .before .kind-of .ensures in
-    rw (known .answer .given .1) (acceptance-appended (s .args .command) q same short (line .accepted-line .ensures))
+    let kind = known .before .before in
+    let s = kind .before .before in
+    acceptance-appended (s .args .command) (known .answer .given .1) (s .pre .1) (w .wide .ensures) (kind .kind-of .ensures) (line .accepted-line .ensures)
 
 same-length-2 : tie.Need-same-length-2
 same-length-2 c = search needs

@@ -1,8 +1,6 @@
 -- The kind and the number are bytes, so the line has at most 11.
-use native.Mathlib.Omega.{arith}
 use borrow.Author.Needs.{needs}
-use Rattle.lines.specs.Append.{room-less}
-use Rattle.sheet.specs.Laws.Line.{refusal-most, refusal-appended}
+use Rattle.sheet.specs.Laws.Line.{refusal-asks, refusal-appended}
 use Rattle.sheet.proofs.line.refusal_line.Statement.{statement}
 use Rattle.sheet.proofs.line.refusal_line.Tie as tie
 
@@ -14,9 +12,8 @@ wide-requires-2 c κs = search needs
 
 refused-line-requires : tie.Need-refused-line-requires
 refused-line-requires c κs =
-    let k = c .before .before .wide .ensures in
-    let n = c .before .wide2 .ensures in
-    (room-less (c .before .before .before .before .pre) (refusal-most k n), (omega (arith, k .most), omega (arith, n .most)))
+    let n = c .before in
+    refusal-asks (n .before .wide .ensures) (n .wide2 .ensures) (n .before .before .before .pre)
 
 same-length : tie.Need-same-length
 same-length c = search needs
