@@ -3,6 +3,7 @@ ghost use mathlib.Core.Path.{_≡_};
 ghost use Rattle.model.specs.Representation.{freshHeads, emptyDraft, freshValue};
 
 // The calls and the heads of the rules in force.
+#[repr(C)]
 pub struct Heads {
     // slots of each call; 0 after the last call
     pub counts: [u8; 32],
@@ -15,6 +16,7 @@ pub struct Heads {
 }
 
 // The rule that is being written. An arity of 0 means that there is none.
+#[repr(C)]
 pub struct Draft {
     // the number that it is to come into force under
     pub number: u8,
@@ -27,6 +29,7 @@ pub struct Draft {
     pub rows: [u8; 256],
 }
 
+#[repr(C)]
 pub struct Value {
     pub heads: Heads,
     pub draft: Draft,
