@@ -4,6 +4,10 @@ use mathlib.Core.Path.{_≡_}
 use mathlib.Core.List.{List}
 use Prim.Native.Nat.{ℕ, zero, suc, _+_, _*_, _≤_}
 use lib.ListN.{length, take, drop}
+use Rattle.model.specs.declared.value.Value.{Value}
+use Rattle.model.specs.declared.answer.Answer.{Answer}
+use Rattle.model.specs.declared.answer.Answer.the-variants as answer
+use Rattle.model.specs.declared.answer.Outcome.{Outcome}
 use Rattle.model.specs.declared.answer.OpenSlots.{OpenSlots}
 use Rattle.model.specs.declared.answer.OpenSlots.the-variants as slots
 use Rattle.model.specs.declared.answer.SlotState.{SlotState}
@@ -12,6 +16,7 @@ use Rattle.model.specs.declared.answer.RowState.{RowState}
 use Rattle.model.specs.declared.answer.RowState.the-variants as row
 use Rattle.model.specs.declared.answer.Support.{Support}
 use Rattle.model.specs.declared.answer.Support.the-variants as support
+use Rattle.berth.specs.declared.reply.CommandReply.{CommandReply}
 use Rattle.berth.specs.declared.reply.SlotsReply.{SlotsReply}
 use Rattle.berth.specs.declared.reply.StateReply.{StateReply}
 use Rattle.berth.specs.declared.reply.RowReply.{RowReply}
@@ -26,6 +31,14 @@ pub record Replied {A B : Type 0} (Promised : A → Type 0) (replyTo : A → B) 
   pub answer : A
   pub promise : Promised answer
   pub handed : reply ≡ replyTo answer
+
+-- S, R, T and the value that is left
+abbrev pub commandReplyBy : Answer → Value → CommandReply
+commandReplyBy (answer.Accepted r) value = record { struck = r .struck; reopened = r .reopened; touched = r .touched; number = 0; value = value }
+commandReplyBy (answer.Refused n) value = record { struck = 0; reopened = 0; touched = 0; number = n; value = value }
+
+abbrev pub commandReply : Outcome → CommandReply
+commandReply o = commandReplyBy (o .answer) (o .value)
 
 -- the mask of a call's open slots, and its ones
 abbrev pub slotsReply : OpenSlots → SlotsReply

@@ -1,11 +1,26 @@
 // The answers as C structs: a number, 0 where there is an answer, and the answer's values.
+use model::answer::Answer;
 use model::answer::OpenSlots;
+use model::answer::Outcome;
 use model::answer::RowState;
 use model::answer::SlotState;
 use model::answer::Support;
+use model::value::Value;
 ghost use mathlib.Core.Path.{_≡_};
-ghost use Rattle.berth.specs.Replies.{slotsReply, stateReply, rowReply, supportReply};
+ghost use Rattle.berth.specs.Replies.{commandReply, slotsReply, stateReply, rowReply, supportReply};
 ghost use Rattle.berth.specs.Places.{placeOf};
+
+// What a command changed, document 01's S, R and T, which are 0 where refused; and the value that it leaves beside the buffers.
+#[repr(C)]
+pub struct CommandReply {
+    // slots open before and struck after
+    pub struck: usize,
+    // slots struck before and open after
+    pub reopened: usize,
+    pub touched: usize,
+    pub number: u8,
+    pub value: Value,
+}
 
 // The mask of a call's open slots and the number of its ones; 0 and 0 where refused.
 #[repr(C)]
@@ -41,6 +56,29 @@ pub struct PlaceReply {
 pub struct SupportReply {
     pub number: u8,
     pub row: u8,
+}
+
+pub fn of_outcome(outcome: Outcome) -> CommandReply
+    ensures { λ r. ⌜ r ≡ commandReply outcome ⌝ }
+{
+    let answer = outcome.answer;
+    let value = outcome.value;
+    match answer {
+        Answer::Accepted(report) => CommandReply {
+            struck: report.struck,
+            reopened: report.reopened,
+            touched: report.touched,
+            number: 0,
+            value,
+        },
+        Answer::Refused(number) => CommandReply {
+            struck: 0,
+            reopened: 0,
+            touched: 0,
+            number,
+            value,
+        },
+    }
 }
 
 pub fn of_open_slots(answer: OpenSlots) -> SlotsReply
