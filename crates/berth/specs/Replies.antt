@@ -23,7 +23,8 @@ use Rattle.berth.specs.declared.reply.RowReply.{RowReply}
 use Rattle.berth.specs.declared.reply.PlaceReply.{PlaceReply}
 use Rattle.berth.specs.declared.reply.SupportReply.{SupportReply}
 use Rattle.model.specs.Ledger.{firstOf}
-use Rattle.model.specs.Representation.{State}
+use Rattle.model.specs.Representation.{State, stateOf}
+use Rattle.model.specs.Promise.{Promise}
 use Rattle.model.specs.Questions.{rowChecks, RowBytesPromise}
 
 -- a reply hands on an answer that keeps its promise, and nothing else
@@ -31,6 +32,10 @@ pub record Replied {A B : Type 0} (Promised : A → Type 0) (replyTo : A → B) 
   pub answer : A
   pub promise : Promised answer
   pub handed : reply ≡ replyTo answer
+
+-- what a command answers and leaves, given the three buffers after it, keeps the entry's promise
+abbrev pub CommandPromise : State → List ℕ → List ℕ → List ℕ → List ℕ → Outcome → Type 0
+CommandPromise before bytes rows killers slots o = Promise before bytes (o .answer) (stateOf (o .value) rows killers slots)
 
 -- S, R, T and the value that is left
 abbrev pub commandReplyBy : Answer → Value → CommandReply

@@ -4,6 +4,7 @@
 // lent pointer reaches as far as its length says, and that no two lent buffers overlap.
 pub mod reply; // the answers as C structs
 
+use crate::reply::CommandReply;
 use crate::reply::PlaceReply;
 use crate::reply::RowReply;
 use crate::reply::SlotsReply;
@@ -11,10 +12,9 @@ use crate::reply::StateReply;
 use crate::reply::SupportReply;
 use model::value::Value;
 ghost use mathlib.Core.Path.{_≡_};
-ghost use Rattle.model.specs.Representation.{freshValue};
-ghost use Rattle.questions.specs.Parts.{stateOf};
+ghost use Rattle.model.specs.Representation.{freshValue, stateOf};
 ghost use Rattle.model.specs.Questions.{SlotsPromise, StatePromise, RowPromise, SupportPromise};
-ghost use Rattle.berth.specs.Replies.{Replied, PlaceReplied, slotsReply, stateReply, rowReply, supportReply};
+ghost use Rattle.berth.specs.Replies.{Replied, CommandPromise, commandReply, PlaceReplied, slotsReply, stateReply, rowReply, supportReply};
 
 // The value beside the buffers before the first command.
 #[no_mangle]
@@ -22,6 +22,20 @@ pub extern "C" fn berth_fresh() -> Value
     ensures { λ r. ⌜ r ≡ freshValue ⌝ }
 {
     Value::fresh()
+}
+
+// A command. The host keeps the reply's value for the next one.
+#[no_mangle]
+pub extern "C" fn berth_command(
+    value: Value,
+    bytes: &[u8],
+    rows: &mut [u8],
+    killers: &mut [u8],
+    slots: &mut [u8],
+) -> CommandReply
+    ensures { λ r. ⌜ Replied (CommandPromise (stateOf value (now (rows .entry)) (now (killers .entry)) (now (slots .entry))) (now (bytes .entry)) (now (rows .exit)) (now (killers .exit)) (now (slots .exit))) commandReply r ⌝ }
+{
+    reply::of_outcome(board::command(value, bytes, rows, killers, slots))
 }
 
 // The mask of a call's open slots, with the number of its ones.

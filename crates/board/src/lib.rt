@@ -1,1 +1,38 @@
-// How the functions of the single kinds keep the promise of one entry for all commands: laws only, until the entry is there.
+// THE COMMAND ENTRY: any bytes as a command, on any value and any buffers.
+// Proved: what it answers and leaves is what specs/Promise.antt of the crate model says; from that alone specs/Lists.antt has demand 3. Assumed: nothing.
+use model::answer::Outcome;
+use model::command::Read;
+use model::value::Value;
+use model::value::bad_lengths;
+ghost use Rattle.model.specs.Representation.{stateOf};
+ghost use Rattle.model.specs.Promise.{Promise};
+
+// Refused, and the value and all buffers are as they were; or accepted, and they are those of the board after the command. A buffer of another length than
+// document 01's is refused 1; no byte at all is refused 3, and bytes left over after the command 4.
+pub fn command(
+    value: Value,
+    bytes: &[u8],
+    rows: &mut [u8],
+    killers: &mut [u8],
+    slots: &mut [u8],
+) -> Outcome
+    ensures { λ r. ⌜ Promise (stateOf value (now (rows .entry)) (now (killers .entry)) (now (slots .entry))) (now (bytes .entry)) (r .answer) (stateOf (r .value) (now (rows .exit)) (now (killers .exit)) (now (slots .exit))) ⌝ }
+{
+    if bad_lengths(rows, killers, slots) {
+        return Outcome::refused(1, value);
+    }
+    let decoded = decode::decode(bytes, 0);
+    let read = decoded.read;
+    let counts = decoded.counts;
+    match read {
+        Read::Command(c) => {
+            if decoded.next < bytes.len() {
+                Outcome::refused(4, value)
+            } else {
+                commands::obey(value, c, counts, rows, killers, slots)
+            }
+        }
+        Read::Refused(_, n) => Outcome::refused(n, value),
+        Read::End => Outcome::refused(3, value),
+    }
+}

@@ -9,10 +9,16 @@ use Rattle.model.specs.declared.value.Value.{Value}
 use Rattle.model.specs.declared.answer.Outcome.{Outcome}
 use Rattle.model.specs.declared.command.Head.{Head}
 use Rattle.model.specs.declared.command.Row.{Row}
+use Rattle.model.specs.declared.command.Command.{Command}
 use Rattle.model.specs.declared.command.Command.the-variants as kind
 use Rattle.model.specs.Commands.{callsOf}
-use Rattle.model.specs.Representation.{emptyDraft}
-use Rattle.kinds.specs.Outcomes.{DraftPromise}
+use Rattle.model.specs.Representation.{stateOf, emptyDraft}
+use Rattle.model.specs.Promise.{KindPromise}
+
+-- A KIND THAT ONLY WRITES THE DRAFT keeps its promise over any buffers, and they stay as they are
+abbrev pub DraftPromise : Value → Command → Outcome → Type 0
+DraftPromise value c r =
+    (rows killers slots ns : List ℕ) → KindPromise (stateOf value rows killers slots) c ns (r .answer) (stateOf (r .value) rows killers slots)
 
 -- a head without rows
 abbrev pub draftOf : Head → Draft

@@ -10,10 +10,7 @@ use Rattle.model.specs.declared.command.Row.{Row}
 use Rattle.model.specs.Tests.{some?, every?}
 use Rattle.model.specs.Commands.{callsOf, slotsOf}
 use Rattle.model.specs.Ledger.{badSpare, badNumber}
-
--- "6 no board": the first call has no slots
-abbrev pub noCalls : List ℕ → Bool
-noCalls counts = eqb (getD counts 0 0) 0
+use Rattle.model.specs.Representation.{noCalls}
 
 -- "8 arity not 1 to 4"
 abbrev pub badArity : ℕ → Bool

@@ -2,6 +2,5 @@
 pub mod Counts
 pub mod Made
 pub mod Order
-pub mod Promised
 pub mod Fields
 pub mod Drafts

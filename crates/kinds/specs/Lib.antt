@@ -1,4 +1,3 @@
-pub mod Outcomes
 pub mod Made
 pub mod Fields
 pub mod Drafts

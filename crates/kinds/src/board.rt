@@ -8,7 +8,7 @@ ghost use Prim.Native.Nat.{_<_};
 ghost use lib.ListN.{length};
 ghost use Rattle.model.specs.Ledger.{badCounts};
 ghost use Rattle.model.specs.Laws.Fresh.{Filled};
-ghost use Rattle.kinds.specs.Outcomes.{stateOf};
+ghost use Rattle.model.specs.Representation.{stateOf};
 ghost use Rattle.kinds.specs.Made.{badCount, slotByte, SlotsMade, Cleared, bareValue, MakesBoard};
 
 // Whether a count n is over 32, or is another than 0 where a 0 came before it.
@@ -107,9 +107,9 @@ pub fn make_board(
     ensures { λ r. ⌜ MakesBoard counts (stateOf value (now (rows .entry)) (now (killers .entry)) (now (slots .entry))) (r .answer) (stateOf (r .value) (now (rows .exit)) (now (killers .exit)) (now (slots .exit))) ⌝ }
 {
     if bad_counts(&counts) {
-        return crate::outcome::refused(5, value);
+        return Outcome::refused(5, value);
     }
     clear(rows, killers, slots, &counts);
     let new = bare_value(counts);
-    crate::outcome::accepted(new)
+    Outcome::accepted(0, 0, 0, new)
 }

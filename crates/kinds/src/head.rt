@@ -55,8 +55,8 @@ pub fn start_draft(value: Value, head: Head) -> Outcome
     let counts = heads.counts;
     let n = check_head(&counts, head);
     if n != 0 {
-        return crate::outcome::refused(n, value);
+        return Outcome::refused(n, value);
     }
     let draft = draft_of(head);
-    crate::outcome::accepted(Value { heads, draft })
+    Outcome::accepted(0, 0, 0, Value { heads, draft })
 }

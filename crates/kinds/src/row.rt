@@ -82,8 +82,8 @@ pub fn add_row(value: Value, row: Row) -> Outcome
     let draft = value.draft;
     let n = check_row(&counts, draft, row);
     if n != 0 {
-        return crate::outcome::refused(n, value);
+        return Outcome::refused(n, value);
     }
     let draft = pushed(draft, row);
-    crate::outcome::accepted(Value { heads, draft })
+    Outcome::accepted(0, 0, 0, Value { heads, draft })
 }

@@ -6,7 +6,9 @@ pub mod Shapes
 pub mod Change
 pub mod Joined
 pub mod Fresh
+pub mod Heads
 pub mod Answers
+pub mod Promised
 pub mod Lists
 pub mod Samples
 pub mod Reports

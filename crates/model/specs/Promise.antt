@@ -3,9 +3,11 @@
 use mathlib.Core.Path.{_≡_}
 use mathlib.Core.List.{List, [], _∷_}
 use Prim.Native.Nat.{ℕ, zero, suc}
+use Rattle.model.specs.declared.value.Value.{Value}
 use Rattle.model.specs.declared.answer.Report.{Report}
 use Rattle.model.specs.declared.answer.Answer.{Answer}
 use Rattle.model.specs.declared.answer.Answer.the-variants as answer
+use Rattle.model.specs.declared.answer.Outcome.{Outcome}
 use Rattle.model.specs.declared.command.Command.{Command}
 use Rattle.model.specs.declared.command.Command.the-variants as kind
 use Rattle.model.specs.declared.command.Read.{Read}
@@ -31,6 +33,13 @@ valuesOf (answer.Refused n) = []
 abbrev pub valuesAt : ℕ → List ℕ → List ℕ
 valuesAt zero values = values
 valuesAt (suc n) values = []
+
+-- the two outcomes of a command: refused under a number, with the value as it was; accepted, with S, R and T to report, and the value that is left
+abbrev pub refusedWith : ℕ → Value → Outcome
+refusedWith n value = record { answer = answer.Refused n; value = value }
+
+abbrev pub acceptedWith : ℕ → ℕ → ℕ → Value → Outcome
+acceptedWith struck reopened touched value = record { answer = answer.Accepted (record { struck = struck; reopened = reopened; touched = touched }); value = value }
 
 -- the report of what was read: of a command by its kind
 abbrev pub ReportsOf : Read → List ℕ → List ℕ → Report → Type 0

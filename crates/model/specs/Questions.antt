@@ -20,7 +20,7 @@ use Rattle.model.specs.Tests.{count, first}
 use Rattle.model.specs.Ledger.{Ledger, LedgerShape, Lent, firstOf, lentConditions, noBoard, badNumber, notInForce}
 use Rattle.model.specs.Report.{markOf, open?}
 use Rattle.model.specs.Promise.{valuesAt}
-use Rattle.model.specs.Representation.{State, lentOf, killerOf, Represents, ruleAt}
+use Rattle.model.specs.Representation.{State, lentOf, killerOf, noCalls, Represents, ruleAt}
 
 -- THE REFUSALS, off a ledger, in the table's order: "6 no board", "7 number over 63", "17 number not in force", "18 no such call", "19 no such slot",
 -- "20 row number not below the row count", "21 column not below arity"
@@ -56,7 +56,7 @@ abbrev pub rowsHeld : Heads → ℕ → ℕ
 rowsHeld h p = min (getD (h .lengths) p 0) 64
 
 abbrev pub boardChecks : State → List (Bool × ℕ)
-boardChecks s = lentConditions (lentOf s) ++ ((eqb (slotsHeld (s .value .heads) 0) 0, 6) ∷ [])
+boardChecks s = lentConditions (lentOf s) ++ ((noCalls (s .value .heads .counts), 6) ∷ [])
 
 abbrev pub callChecks : State → ℕ → List (Bool × ℕ)
 callChecks s c = boardChecks s ++ ((eqb (slotsHeld (s .value .heads) c) 0, 18) ∷ [])

@@ -1,11 +1,13 @@
 -- THE REPRESENTATION: which value and bytes are a ledger's ("Memory the host lends"). Every field and byte is given by an equation, except the causes and
 -- killers, which document 01 leaves free within conditions.
 use mathlib.Core.Path.{_≡_}
+use mathlib.Core.Bool.{Bool}
 use mathlib.Core.List.{List, []}
 use mathlib.Core.Logic.{_↔_}
 use mathlib.Core.Option.{Option, none, some}
 use Prim.Native.Nat.{ℕ, _+_, _*_, _≤_, _<_}
 use lib.ListN.{length, getD, replicate}
+use lib.Dec.{eqb}
 use Rattle.model.specs.declared.value.Heads.{Heads}
 use Rattle.model.specs.declared.value.Draft.{Draft}
 use Rattle.model.specs.declared.value.Value.{Value}
@@ -36,6 +38,10 @@ pub record Headed (B : Board) (h : Heads) : Type 0 where
   pub arity : (p : ℕ) → p < 64 → getD (h .arity) p 0 ≡ length (ruleAt B p .calls)
   pub calls : (p k : ℕ) → p < 64 → k < 4 → getD (h .calls) (4 * p + k) 0 ≡ callAt (ruleAt B p) k
   pub lengths : (p : ℕ) → p < 64 → getD (h .lengths) p 0 ≡ length (ruleAt B p .rows)
+
+-- there is no board where the first call has no slots, by the counts that the value holds
+abbrev pub noCalls : List ℕ → Bool
+noCalls counts = eqb (getD counts 0 0) 0
 
 -- "Rows: 16,384 bytes. Row w of rule r fills the four bytes from 256·r + 4·w. Spare columns, rows beyond the last and rules out of force hold 255."
 pub record RowBytes (B : Board) (rows : List ℕ) : Type 0 where
@@ -73,6 +79,9 @@ pub record State : Type 0 where
   pub rows : List ℕ
   pub killers : List ℕ
   pub slots : List ℕ
+
+abbrev pub stateOf : Value → List ℕ → List ℕ → List ℕ → State
+stateOf value rows killers slots = record { value = value; rows = rows; killers = killers; slots = slots }
 
 abbrev pub lentOf : State → Lent
 lentOf s = record { rows = length (s .rows); killers = length (s .killers); slots = length (s .slots) }

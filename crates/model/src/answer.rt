@@ -1,5 +1,7 @@
 // What commands and questions answer.
 use crate::value::Value;
+ghost use mathlib.Core.Path.{_≡_};
+ghost use Rattle.model.specs.Promise.{refusedWith, acceptedWith};
 
 // What an accepted command changed: document 01's S, R and T.
 pub struct Report {
@@ -20,6 +22,33 @@ pub enum Answer {
 pub struct Outcome {
     pub answer: Answer,
     pub value: Value,
+}
+
+impl Outcome {
+    // Refused under the number n: the value as it was.
+    pub fn refused(n: u8, value: Value) -> Self
+        ensures { λ r. ⌜ r ≡ refusedWith n value ⌝ }
+    {
+        Self {
+            answer: Answer::Refused(n),
+            value,
+        }
+    }
+
+    // Accepted, with S, R and T to report, and the value that is left.
+    pub fn accepted(struck: usize, reopened: usize, touched: usize, value: Value) -> Self
+        ensures { λ r. ⌜ r ≡ acceptedWith struck reopened touched value ⌝ }
+    {
+        let report = Report {
+            struck,
+            reopened,
+            touched,
+        };
+        Self {
+            answer: Answer::Accepted(report),
+            value,
+        }
+    }
 }
 
 // The slots of a call.

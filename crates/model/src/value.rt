@@ -1,5 +1,7 @@
 // The value beside the lent buffers, whole.
 ghost use mathlib.Core.Path.{_≡_};
+ghost use lib.ListN.{length};
+ghost use Rattle.model.specs.Ledger.{badLent};
 ghost use Rattle.model.specs.Representation.{freshHeads, emptyDraft, freshValue};
 
 // The calls and the heads of the rules in force.
@@ -43,6 +45,19 @@ pub const KILLERS: usize = 4096;
 
 // The slot bytes that it lends: one for each of 32 slots of each of 32 calls.
 pub const SLOTS: usize = 1024;
+
+// Refusal 1: a buffer isn't of its length.
+pub fn bad_lengths(rows: &[u8], killers: &[u8], slots: &[u8]) -> bool
+    ensures { λ r. ⌜ r ≡ badLent (record { rows = length (now (rows .entry)); killers = length (now (killers .entry)); slots = length (now (slots .entry)) }) ⌝ }
+{
+    if rows.len() != ROWS {
+        return true;
+    }
+    if killers.len() != KILLERS {
+        return true;
+    }
+    slots.len() != SLOTS
+}
 
 impl Heads {
     // No calls, and no rule in force.

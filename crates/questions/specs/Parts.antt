@@ -3,12 +3,7 @@ use mathlib.Core.Path.{_≡_}
 use mathlib.Core.List.{List}
 use Prim.Native.Nat.{ℕ, _≤_, _<_}
 use lib.ListN.{length}
-use Rattle.model.specs.declared.value.Value.{Value}
-use Rattle.model.specs.Representation.{State, emptyDraft}
-
--- the value and what the three lent buffers hold
-abbrev pub stateOf : Value → List ℕ → List ℕ → List ℕ → State
-stateOf value rows killers slots = record { value = value; rows = rows; killers = killers; slots = slots }
+use Rattle.model.specs.Representation.{State, stateOf, emptyDraft}
 
 -- a state of these parts, for a function that is handed only some of them: [] stands for a part that it does not look at, and no question looks at the draft
 abbrev pub stateOfParts : List ℕ → List ℕ → List ℕ → List ℕ → List ℕ → List ℕ → List ℕ → State

@@ -1,17 +1,18 @@
 -- What the first number of a list of checks says: of the checks that follow behind it, and of the bounds that the code goes by. Assumes nothing.
 use mathlib.Core.Path.{_≡_, refl, sym, _∙_}
-use mathlib.Core.Bool.{Bool, true, false, cond, _&&_, and-eq-true-iff}
+use mathlib.Core.Bool.{Bool, true, false, cond, _&&_}
 use mathlib.Core.List.{List, [], _∷_, _++_}
 use mathlib.Core.Logic.{_≢_}
 use Prim.Native.Nat.{ℕ, _+_, _*_, _<_}
 use native.Mathlib.Omega.{arith}
 use lib.ListN.{length, getD}
 use lib.Dec.{T, eqb, ltb, leb}
-use borrow.Author.Tests.{ltb-true, ltb-false, leb-false, eqb-true, not-false}
-use Rattle.model.specs.Ledger.{Lent, firstOf, badLent, badNumber}
+use borrow.Author.Tests.{ltb-true, ltb-false, leb-false}
+use Rattle.model.specs.Ledger.{firstOf, badNumber}
 use Rattle.model.specs.Representation.{State, lentOf}
 use Rattle.model.specs.Questions.{slotsHeld, columnsHeld, rowsHeld, boardChecks, callChecks, slotChecks, ruleChecks, rowChecks, supportChecks}
 use Rattle.model.specs.Laws.Shapes.{positive, passed, first-append}
+use Rattle.model.specs.Laws.Entry.{lent-sizes}
 use Rattle.questions.specs.Parts.{Searchable}
 
 -- a check that refuses decides, whatever is checked after it
@@ -91,12 +92,6 @@ module _ (s : State) {n : ℕ} where
   support-decides p k t e z h a g = rw (h, g, a) (sym (rest-decides (ruleChecks s p) (supportOwn s p k t) tt e z))
 
 -- THE BOUNDS behind the checks that pass: buffers of their lengths, a rule's number, a row and a column
-lent-sizes : (lent : Lent) → badLent lent ≡ false → (lent .rows ≡ 16384) × (lent .killers ≡ 4096) × (lent .slots ≡ 1024)
-lent-sizes lent e =
-    let all = and-eq-true-iff (eqb (lent .rows) 16384 && eqb (lent .killers) 4096) (eqb (lent .slots) 1024) .0 (not-false _ e) in
-    let two = and-eq-true-iff (eqb (lent .rows) 16384) (eqb (lent .killers) 4096) .0 (all .0) in
-    (eqb-true (lent .rows) 16384 (two .0), eqb-true (lent .killers) 4096 (two .1), eqb-true (lent .slots) 1024 (all .1))
-
 module _ (s : State) (p : ℕ) {n : ℕ} where
   pub rule-bounds : n ≡ firstOf (ruleChecks s p) → n ≡ 0 → (length (s .rows) ≡ 16384) × (length (s .killers) ≡ 4096) × (p < 64)
   rule-bounds e z =

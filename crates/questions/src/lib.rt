@@ -17,7 +17,7 @@ use model::answer::SlotState;
 use model::answer::Support;
 use model::value::Value;
 ghost use Rattle.model.specs.Questions.{SlotsPromise, StatePromise, RowPromise, RowBytesPromise, SupportPromise};
-ghost use Rattle.questions.specs.Parts.{stateOf};
+ghost use Rattle.model.specs.Representation.{stateOf};
 
 // The mask of a call's open slots, with the number of its ones.
 pub fn open_slots(value: Value, rows: &[u8], killers: &[u8], slots: &[u8], call: u8) -> OpenSlots

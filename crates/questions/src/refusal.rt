@@ -4,9 +4,7 @@ use crate::read::byte_at;
 use crate::read::columns_held;
 use crate::read::rows_held;
 use crate::read::slots_held;
-use model::value::KILLERS;
-use model::value::ROWS;
-use model::value::SLOTS;
+use model::value::bad_lengths;
 ghost use mathlib.Core.Path.{_≡_};
 ghost use mathlib.Core.List.{[]};
 ghost use Rattle.model.specs.Ledger.{firstOf};
@@ -17,13 +15,7 @@ ghost use Rattle.questions.specs.Parts.{stateOfParts};
 pub fn board_refusal(counts: &[u8; 32], rows: &[u8], killers: &[u8], slots: &[u8]) -> u8
     ensures { λ r. ⌜ r ≡ firstOf (boardChecks (stateOfParts (now (counts .entry)) [] [] [] (now (rows .entry)) (now (killers .entry)) (now (slots .entry)))) ⌝ }
 {
-    if rows.len() != ROWS {
-        return 1;
-    }
-    if killers.len() != KILLERS {
-        return 1;
-    }
-    if slots.len() != SLOTS {
+    if bad_lengths(rows, killers, slots) {
         return 1;
     }
     if counts[0] == 0 { 6 } else { 0 }

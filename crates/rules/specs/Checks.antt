@@ -5,10 +5,7 @@ use Prim.Native.Nat.{ℕ, _%_}
 use lib.ListN.{getD}
 use lib.Dec.{eqb}
 use Rattle.model.specs.Ledger.{badNumber}
-
--- "6 no board": the first call has no slots
-abbrev pub noCalls : List ℕ → Bool
-noCalls counts = eqb (getD counts 0 0) 0
+use Rattle.model.specs.Representation.{noCalls}
 
 -- "17 number not in force": the rule under the number has no column. A number is taken modulo 64, so that any byte names one
 abbrev pub noRule : List ℕ → ℕ → Bool

@@ -1,4 +1,3 @@
 pub mod Fields
-pub mod Promised
 pub mod Checks
 pub mod Changes

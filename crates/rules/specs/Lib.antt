@@ -1,4 +1,3 @@
-pub mod States
 pub mod Checks
 pub mod Changes
 pub mod Laws

@@ -8,9 +8,9 @@ ghost use mathlib.Core.List.{List};
 ghost use Prim.Native.Nat.{ℕ};
 ghost use Rattle.model.specs.declared.command.Command.the-variants as kind;
 ghost use Rattle.model.specs.Ledger.{firstOf};
+ghost use Rattle.model.specs.Representation.{stateOf};
 ghost use Rattle.model.specs.Promise.{KindPromise};
 ghost use Rattle.revise.specs.Bounds.{Sizes};
-ghost use Rattle.rules.specs.States.{stateOf};
 ghost use Rattle.rules.specs.Checks.{putChecks};
 ghost use Rattle.rules.specs.Changes.{BroughtIn};
 
@@ -67,7 +67,7 @@ pub fn bring_in(value: Value, rows: &mut [u8], killers: &mut [u8], slots: &mut [
         calls,
         lengths,
     };
-    crate::outcome::accepted(struck, 0, struck, Value { heads, draft: none })
+    Outcome::accepted(struck, 0, struck, Value { heads, draft: none })
 }
 
 // The whole of kind 4: refused, and nothing is changed; or the draft is in force, and there is none left.
@@ -81,7 +81,7 @@ pub fn put_draft(value: Value, rows: &mut [u8], killers: &mut [u8], slots: &mut 
     let draft = value.draft;
     let n = check_put(&counts, &arity, draft.number, draft.arity);
     if n != 0 {
-        return crate::outcome::refused(n, value);
+        return Outcome::refused(n, value);
     }
     bring_in(value, rows, killers, slots)
 }

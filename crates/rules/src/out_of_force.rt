@@ -7,9 +7,9 @@ ghost use mathlib.Core.List.{List};
 ghost use Prim.Native.Nat.{ℕ};
 ghost use Rattle.model.specs.declared.command.Command.the-variants as kind;
 ghost use Rattle.model.specs.Ledger.{firstOf};
+ghost use Rattle.model.specs.Representation.{stateOf};
 ghost use Rattle.model.specs.Promise.{KindPromise};
 ghost use Rattle.revise.specs.Bounds.{Sizes};
-ghost use Rattle.rules.specs.States.{stateOf};
 ghost use Rattle.rules.specs.Checks.{liftChecks};
 ghost use Rattle.rules.specs.Changes.{TakenOut};
 
@@ -65,7 +65,7 @@ pub fn take_out(
         calls,
         lengths,
     };
-    crate::outcome::accepted(0, lifted.reopened, lifted.touched, Value { heads, draft })
+    Outcome::accepted(0, lifted.reopened, lifted.touched, Value { heads, draft })
 }
 
 // The whole of kind 5: refused, and nothing is changed; or the rule is out of force.
@@ -84,7 +84,7 @@ pub fn lift_rule(
     let arity = heads.arity;
     let n = check_lift(&counts, &arity, number);
     if n != 0 {
-        return crate::outcome::refused(n, value);
+        return Outcome::refused(n, value);
     }
     take_out(value, number, rows, killers, slots)
 }

@@ -14,21 +14,23 @@ use borrow.Author.Tests.{eqb-true, le-leb, leb-false, not-false}
 use Rattle.tables.specs.Facts.{lt-or-le}
 use Rattle.model.specs.declared.value.Value.{Value}
 use Rattle.model.specs.declared.value.Draft.{Draft}
+use Rattle.model.specs.declared.answer.Report.{Report}
 use Rattle.model.specs.declared.command.Head.{Head}
 use Rattle.model.specs.declared.command.Row.{Row}
 use Rattle.model.specs.declared.command.Command.the-variants as kind
 use Rattle.model.specs.Board.{Rule, slotAt}
 use Rattle.model.specs.Commands.{callsOf, slotsOf}
 use Rattle.model.specs.Ledger.{NumberedRule, draftOr, firstOf, badSpare, kindConditions}
-use Rattle.model.specs.Representation.{Drafted}
+use Rattle.model.specs.Report.{Silent}
+use Rattle.model.specs.Representation.{Drafted, stateOf}
+use Rattle.model.specs.Promise.{refusedWith, acceptedWith}
 use Rattle.model.specs.Laws.Tests.{none-passes}
 use Rattle.model.specs.Laws.Shapes.{Passed, passed}
 use Rattle.model.specs.Laws.Fresh.{filled}
-use Rattle.kinds.specs.Outcomes.{refusedWith, acceptedWith}
+use Rattle.model.specs.Laws.Promised.{promise-refused, promise-accepted}
 use Rattle.kinds.specs.Fields.{headChecks, rowChecks}
 use Rattle.kinds.specs.Drafts.{draftOf, StartsDraft, withSlots, withRow, AddsRow}
 use Rattle.kinds.specs.Laws.Fields.{any-default, arity-most, draft-limits, head-checks-same, row-checks-same}
-use Rattle.kinds.specs.Laws.Promised.{promise-refused, promise-accepted}
 
 -- four fields of which those past the first a are 255: the list of the first a reads the same
 pub spare-same : (a : ℕ) (xs : List ℕ) → length xs ≡ 4 → badSpare a xs ≡ false → (k : ℕ) → k < 4 → getD xs k 0 ≡ getD (take a xs) k 255
@@ -57,6 +59,13 @@ head-drafted h most good =
       rows = λ w k lw lk. filled 256 255 .all (4 * w + k) (omega arith);
     }
 
+-- a kind that only writes the draft reports 0, 0, 0
+abbrev quiet : Report
+quiet = record { struck = 0; reopened = 0; touched = 0 }
+
+quiet-is : Silent quiet
+quiet-is = record { struck = refl; reopened = refl; touched = refl }
+
 -- the value with another draft
 abbrev withDraft : Value → Draft → Value
 withDraft value d = record { heads = value .heads; draft = d }
@@ -64,14 +73,15 @@ withDraft value d = record { heads = value .heads; draft = d }
 module _ (value : Value) (h : Head) where
   pub head-refused : (n : ℕ) → n ≡ firstOf (headChecks (value .heads .counts) h) → (n ≡ 0 → ⊥) → StartsDraft value h (refusedWith n value)
   head-refused n e ne =
-      promise-refused value (kind.Head h) n ne
-      (λ rows killers slots ns L shape is. e ∙ ap firstOf (head-checks-same L shape (value .heads) (is .stored .headed) h ns))
+      λ rows killers slots ns. promise-refused (stateOf value rows killers slots) (kind.Head h) ns n ne
+      (λ L shape is. e ∙ ap firstOf (head-checks-same L shape (value .heads) (is .stored .headed) h ns))
 
-  pub head-accepted : 0 ≡ firstOf (headChecks (value .heads .counts) h) → StartsDraft value h (acceptedWith (withDraft value (draftOf h)))
+  pub head-accepted : 0 ≡ firstOf (headChecks (value .heads .counts) h) → StartsDraft value h (acceptedWith 0 0 0 (withDraft value (draftOf h)))
   head-accepted e =
-      promise-accepted value (kind.Head h) (withDraft value (draftOf h)) (λ x y. record { struck = refl; reopened = refl; touched = refl })
-      (λ rows killers slots ns L shape is. (
+      λ rows killers slots ns. promise-accepted (stateOf value rows killers slots) (kind.Head h) ns (stateOf (withDraft value (draftOf h)) rows killers slots) quiet
+      (λ L shape is. (
         e ∙ ap firstOf (head-checks-same L shape (value .heads) (is .stored .headed) h ns),
+        quiet-is,
         record { stored = is .stored; drafted = head-drafted h (arity-most (h .arity) (good .1 .1 .0)) (good .1 .1 .1 .1 .1 .0) },
       ))
     where
@@ -174,15 +184,15 @@ module _ (o : Option NumberedRule) (draft : Draft) (w : Row) (d : Drafted o draf
 module _ (value : Value) (w : Row) where
   pub row-refused : (n : ℕ) → n ≡ firstOf (rowChecks (value .heads .counts) (value .draft) w) → (n ≡ 0 → ⊥) → AddsRow value w (refusedWith n value)
   row-refused n e ne =
-      promise-refused value (kind.Row w) n ne
-      (λ rows killers slots ns L shape is. e ∙ ap firstOf (row-checks-same L shape (value .heads) (is .stored .headed) (value .draft) (is .drafted) w ns))
+      λ rows killers slots ns. promise-refused (stateOf value rows killers slots) (kind.Row w) ns n ne
+      (λ L shape is. e ∙ ap firstOf (row-checks-same L shape (value .heads) (is .stored .headed) (value .draft) (is .drafted) w ns))
 
-  pub row-accepted : 0 ≡ firstOf (rowChecks (value .heads .counts) (value .draft) w) → AddsRow value w (acceptedWith (withDraft value (withRow (value .draft) w)))
+  pub row-accepted : 0 ≡ firstOf (rowChecks (value .heads .counts) (value .draft) w) → AddsRow value w (acceptedWith 0 0 0 (withDraft value (withRow (value .draft) w)))
   row-accepted e =
-      promise-accepted value (kind.Row w) (withDraft value (withRow (value .draft) w)) (λ x y. record { struck = refl; reopened = refl; touched = refl })
-      (λ rows killers slots ns L shape is.
+      λ rows killers slots ns. promise-accepted (stateOf value rows killers slots) (kind.Row w) ns (stateOf (withDraft value (withRow (value .draft) w)) rows killers slots) quiet
+      (λ L shape is.
       let first = e ∙ ap firstOf (row-checks-same L shape (value .heads) (is .stored .headed) (value .draft) (is .drafted) w ns) in
       let good = passed (kindConditions L (kind.Row w) ns) tt (sym first) in
       let room = leb-false 64 (length (draftOr (L .draft) .rule .rows)) (good .1 .1 .0) in
       let drafted = row-drafted (L .draft) (value .draft) w (is .drafted) (draft-limits L shape .columns) room (good .1 .1 .1 .1 .0) in
-      (first, record { stored = is .stored; drafted = drafted }))
+      (first, quiet-is, record { stored = is .stored; drafted = drafted }))

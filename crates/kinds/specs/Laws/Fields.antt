@@ -1,14 +1,14 @@
 -- ON A STATE THAT IS A LEDGER'S the checks over the bytes are the table's conditions. Assumes nothing.
-use mathlib.Core.Path.{_≡_, refl, sym, _∙_}
-use mathlib.Core.Bool.{Bool, true, false}
+use mathlib.Core.Path.{_≡_, refl}
+use mathlib.Core.Bool.{Bool, false}
 use mathlib.Core.List.{List, [], _∷_}
 use mathlib.Core.Logic.{⊎-elim}
 use mathlib.Core.Option.{Option, none, some}
 use Prim.Native.Nat.{ℕ, zero, suc, _+_, _*_, _%_, _<_, _≤_}
 use native.Mathlib.Omega.{arith}
-use lib.ListN.{length, getD, List·getD-eq-default}
+use lib.ListN.{length, getD}
 use lib.Dec.{eqb, ltb, leb}
-use borrow.Author.Tests.{eq-eqb, ne-eqb, le-leb, lt-leb, ltb-false}
+use borrow.Author.Tests.{ne-eqb, le-leb, lt-leb, ltb-false}
 use Rattle.tables.specs.Facts.{lt-or-le}
 use Rattle.model.specs.declared.value.Heads.{Heads}
 use Rattle.model.specs.declared.value.Draft.{Draft}
@@ -21,7 +21,8 @@ use Rattle.model.specs.Commands.{callsOf, slotsOf}
 use Rattle.model.specs.Ledger.{NumberedRule, Ledger, LedgerShape, draftOr, kindConditions}
 use Rattle.model.specs.Representation.{Headed, Drafted}
 use Rattle.model.specs.Laws.Tests.{or-false}
-use Rattle.kinds.specs.Fields.{noCalls, offBoard, badArity, headChecks, columnsOf, offCall, slotOffCall, sameRow, rowInDraft, rowChecks}
+use Rattle.model.specs.Laws.Heads.{no-call, no-calls}
+use Rattle.kinds.specs.Fields.{offBoard, badArity, headChecks, columnsOf, offCall, slotOffCall, sameRow, rowInDraft, rowChecks}
 use Rattle.kinds.specs.Search.{some-same, every-same}
 
 -- within a list the default does not count
@@ -37,36 +38,13 @@ arity-most n e = ltb-false 4 n (or-false (ltb n 1) (ltb 4 n) e .1)
 same-check : {a b : Bool} {n : ℕ} {xs ys : List (Bool × ℕ)} → a ≡ b → xs ≡ ys → _≡_ {A = List (Bool × ℕ)} ((a, n) ∷ xs) ((b, n) ∷ ys)
 same-check e f = rw (e, f) refl
 
-module _ (B : Board) (shape : Shape B) (heads : Heads) (headed : Headed B heads) where
-  -- a call is on the board exactly where it has slots
-  has-slots : (c : ℕ) → c < length (B .counts) → eqb (getD (heads .counts) c 0) 0 ≡ false
-  has-slots c h =
-      let some = shape .counts c h .0 in
-      rw (headed .counts c (omega (arith, shape .calls))) (ne-eqb (getD (B .counts) c 0) 0 (λ e. omega arith))
-
-  no-slots : (c : ℕ) → c < 32 → length (B .counts) ≤ c → eqb (getD (heads .counts) c 0) 0 ≡ true
-  no-slots c h le = rw (headed .counts c h) (eq-eqb (getD (B .counts) c 0) 0 (List·getD-eq-default (B .counts) 0 le))
-
-  pub no-board-same : noCalls (heads .counts) ≡ eqb (length (B .counts)) 0
-  no-board-same =
-      ⊎-elim
-      (λ h. has-slots 0 h ∙ sym (ne-eqb (length (B .counts)) 0 (λ e. omega arith)))
-      (λ le. no-slots 0 (omega arith) le ∙ sym (eq-eqb (length (B .counts)) 0 (omega arith)))
-      (lt-or-le 0 (length (B .counts)))
-
-  pub off-board-same : (x : ℕ) → offBoard (heads .counts) x ≡ leb (length (B .counts)) x
-  off-board-same x = ⊎-elim inside outside (lt-or-le x 32)
-    where
-      outside : 32 ≤ x → offBoard (heads .counts) x ≡ leb (length (B .counts)) x
-      outside h = rw (le-leb 32 x h, le-leb (length (B .counts)) x (omega (arith, shape .calls))) refl
-
-      inside : x < 32 → offBoard (heads .counts) x ≡ leb (length (B .counts)) x
-      inside h =
-          rw (lt-leb 32 x h)
-          (⊎-elim
-          (λ l. has-slots x l ∙ sym (lt-leb (length (B .counts)) x l))
-          (λ le. no-slots x h le ∙ sym (le-leb (length (B .counts)) x le))
-          (lt-or-le x (length (B .counts))))
+-- a call is off the board exactly where it has no slots
+pub off-board-same : (B : Board) → Shape B → (heads : Heads) → Headed B heads → (x : ℕ) → offBoard (heads .counts) x ≡ leb (length (B .counts)) x
+off-board-same B shape heads headed x =
+    ⊎-elim
+    (λ h. rw (lt-leb 32 x h) (no-call B shape heads headed x))
+    (λ h. rw (le-leb 32 x h, le-leb (length (B .counts)) x (omega (arith, shape .calls))) refl)
+    (lt-or-le x 32)
 
 -- KIND 2
 pub head-checks-same : (L : Ledger) → LedgerShape L → (heads : Heads) → Headed (L .board) heads → (h : Head) (ns : List ℕ)
@@ -75,7 +53,7 @@ head-checks-same L shape heads headed h ns =
     let B = L .board in
     let calls = some-same (h .arity) (λ k. offBoard (heads .counts) (getD (callsOf h) k 255)) (λ k. leb (length (B .counts)) (getD (callsOf h) k 255))
     (λ k lk. off-board-same B (shape .board) heads headed (getD (callsOf h) k 255)) in
-    rw (no-board-same B (shape .board) heads headed, calls) refl
+    rw (no-calls B (shape .board) heads headed, calls) refl
 
 -- a draft is a rule that the board could have
 abbrev GoodDraft : List ℕ → Option NumberedRule → Type 0
@@ -142,7 +120,7 @@ module _ (L : Ledger) (shape : LedgerShape L) (heads : Heads) (headed : Headed (
 
   pub row-checks-same : (ns : List ℕ) → rowChecks (heads .counts) draft w ≡ kindConditions L (kind.Row w) ns
   row-checks-same ns =
-      same-check (no-board-same (L .board) (shape .board) heads headed)
+      same-check (no-calls (L .board) (shape .board) heads headed)
       (same-check (rw (drafted .arity) (no-draft-same L shape))
       (same-check (rw (drafted .length-is) refl)
       (same-check slots-same

@@ -12,11 +12,10 @@ use Rattle.model.specs.declared.command.Command.the-variants as kind
 use Rattle.model.specs.Board.{OnBoard, Shape}
 use Rattle.model.specs.Ledger.{bare, fresh, badCounts, upToZero, effect}
 use Rattle.model.specs.Report.{markOf}
-use Rattle.model.specs.Representation.{State, Represents}
+use Rattle.model.specs.Representation.{State, stateOf, Represents}
 use Rattle.model.specs.Laws.Shapes.{effect-shape, shape-fresh}
 use Rattle.model.specs.Laws.Change.{on-range}
 use Rattle.model.specs.Laws.Fresh.{filled, bare-headed, bare-stored, fresh-represents}
-use Rattle.kinds.specs.Outcomes.{stateOf, silent}
 use Rattle.kinds.specs.Made.{slotByte, Cleared, bareValue, MakesBoard}
 use Rattle.kinds.specs.Laws.Counts.{counts-kept}
 
@@ -54,7 +53,7 @@ module _ (ns : List ℕ) (size : length ns ≡ 32) (good : badCounts ns ≡ fals
           drafted = fresh-represents .drafted;
         }
 
-    pub makes-new : (before : State) → MakesBoard ns before (answer.Accepted silent) (stateOf (bareValue ns) rows killers slots)
+    pub makes-new : (before : State) → MakesBoard ns before (answer.Accepted (record { struck = 0; reopened = 0; touched = 0 })) (stateOf (bareValue ns) rows killers slots)
     makes-new before =
         record {
           refused = λ n e. let z : _≡_ {A = ℕ} 0 1 = cc in absurd (omega arith);

@@ -1,22 +1,23 @@
 -- HOW THE ENTRY'S PROMISE IS KEPT: a command whose lengths or form are wrong is refused under the first number that holds, and any other is left to the
 -- function of its kind. Assumes nothing.
 use mathlib.Core.Path.{_≡_, refl, sym, ap, subst, _∙_}
-use mathlib.Core.Bool.{Bool, true, false, _&&_, cond}
+use mathlib.Core.Bool.{Bool, true, false, _&&_, cond, and-eq-true-iff}
 use mathlib.Core.List.{List, [], _∷_, _++_}
 use mathlib.Core.Logic.{_⊎_, inl, inr}
-use Prim.Native.Nat.{ℕ, suc, _+_}
+use Prim.Native.Nat.{ℕ, suc, _+_, _<_, _≤_}
 use native.Mathlib.Omega.{arith}
 use lib.ListN.{length, getD}
-use lib.Dec.{T, ltb, leb}
-use borrow.Author.Tests.{ltb-true}
+use lib.Dec.{T, eqb, ltb, leb}
+use borrow.Author.Tests.{ltb-true, lt-ltb, le-ltb, eqb-true, not-false}
 use Rattle.model.specs.declared.answer.Answer.{Answer}
 use Rattle.model.specs.declared.answer.Answer.the-variants as answer
 use Rattle.model.specs.declared.command.Command.{Command}
 use Rattle.model.specs.declared.command.Command.the-variants as kind
 use Rattle.model.specs.declared.command.Read.{Read}
 use Rattle.model.specs.declared.command.Read.the-variants as found
+use Rattle.model.specs.declared.command.Decoded.{Decoded}
 use Rattle.model.specs.Commands.{isKind, bodyLength, commandAt, countsAt, without, readAt}
-use Rattle.model.specs.Ledger.{Ledger, badLent, firstOf, formConditions, ownConditions, kindConditions, earlyConditions, refusal, obey, step}
+use Rattle.model.specs.Ledger.{Ledger, Lent, badLent, firstOf, formConditions, ownConditions, kindConditions, earlyConditions, refusal, obey, step}
 use Rattle.model.specs.Representation.{State, lentOf, Represents}
 use Rattle.model.specs.Promise.{valuesAt, reportValues, ReportsOf, Answered, Obeyed, KindPromise, BoardMade, Promise}
 use Rattle.model.specs.Laws.Shapes.{positive}
@@ -39,6 +40,13 @@ first-own (x ∷ xs) ys t e = go (x .0) (ltb 0 (x .1)) refl t e (λ t d. first-o
     go true true q t e k = absurd (omega (arith, ltb-true 0 (x .1) q))
     go false true q t e k = k t e
     go b false q t e k = absurd t
+
+-- the lengths, where they are not refused
+pub lent-sizes : (lent : Lent) → badLent lent ≡ false → (lent .rows ≡ 16384) × (lent .killers ≡ 4096) × (lent .slots ≡ 1024)
+lent-sizes lent e =
+    let all = and-eq-true-iff (eqb (lent .rows) 16384 && eqb (lent .killers) 4096) (eqb (lent .slots) 1024) .0 (not-false _ e) in
+    let two = and-eq-true-iff (eqb (lent .rows) 16384) (eqb (lent .killers) 4096) .0 (all .0) in
+    (eqb-true (lent .rows) 16384 (two .0), eqb-true (lent .killers) 4096 (two .1), eqb-true (lent .slots) 1024 (all .1))
 
 -- what is read at a place is refused under 3 or 4 only
 pub read-numbers : (s : List ℕ) (at k n : ℕ) → readAt s at .read ≡ found.Refused k n → (n ≡ 3) ⊎ (n ≡ 4)
@@ -94,6 +102,41 @@ refused-promise s bytes n e =
           reported = λ d. absurd (omega (arith, whole L, d));
           represents = subst (λ (K : Ledger). Represents K s) (sym (alone L)) rep;
         }
+
+-- the four refusals that the entry gives by itself, as it comes upon them
+module _ (s : State) (bytes : List ℕ) where
+  pub refused-lengths : badLent (lentOf s) ≡ true → Promise s bytes (answer.Refused 1) s
+  refused-lengths bad = refused-promise s bytes 0 (early-lengths s bytes bad)
+
+  -- of d, which was read at the first byte
+  module _ (good : badLent (lentOf s) ≡ false) (d : Decoded) (decoded : d ≡ readAt bytes 0) where
+    early-read : (r : Read) → d .read ≡ r → firstOf (earlyConditions (lentOf s) bytes) ≡ firstOf (formConditions r (ltb (d .next) (length bytes)))
+    early-read r is =
+        early-form s bytes good
+        ∙ ap (λ (x : Decoded). firstOf (formConditions (x .read) (ltb (x .next) (length bytes)))) (sym decoded)
+        ∙ ap (λ (x : Read). firstOf (formConditions x (ltb (d .next) (length bytes)))) is
+
+    pub refused-end : d .read ≡ found.End → Promise s bytes (answer.Refused 3) s
+    refused-end is = refused-promise s bytes 2 (early-read found.End is)
+
+    pub refused-read : (k n : ℕ) → d .read ≡ found.Refused k n → Promise s bytes (answer.Refused n) s
+    refused-read k n is = go (read-numbers bytes 0 k n (ap (λ (x : Decoded). x .read) (sym decoded) ∙ is))
+      where
+        numbered : (m : ℕ) → n ≡ suc m → Promise s bytes (answer.Refused n) s
+        numbered m e =
+            subst (λ (j : ℕ). Promise s bytes (answer.Refused j) s) (sym e) (refused-promise s bytes m (early-read (found.Refused k n) is ∙ e))
+
+        go : (n ≡ 3) ⊎ (n ≡ 4) → Promise s bytes (answer.Refused n) s
+        go (inl e) = numbered 2 e
+        go (inr e) = numbered 3 e
+
+    module _ (c : Command) (is : d .read ≡ found.Command c) where
+      pub refused-left-over : d .next < length bytes → Promise s bytes (answer.Refused 4) s
+      refused-left-over more = refused-promise s bytes 3 (early-read (found.Command c) is ∙ rw (lt-ltb (d .next) (length bytes) more) refl)
+
+      -- and none of them
+      pub well-formed : length bytes ≤ d .next → firstOf (earlyConditions (lentOf s) bytes) ≡ 0
+      well-formed whole = early-read (found.Command c) is ∙ rw (le-ltb (d .next) (length bytes) whole) refl
 
 -- LEFT TO THE KIND
 module _ (s : State) (bytes : List ℕ) (c : Command) (given : Answer) (after : State) (is : readAt bytes 0 .read ≡ found.Command c)

@@ -11,7 +11,7 @@ use native.Mathlib.Nat.{eq-or-lt-of-le, le-of-suc-le-suc}
 use lib.ListN.{length, getD, drop, length-drop, List·getD-eq-default}
 use lib.Seq.{getD-take, getD-drop, length-take-le}
 use lib.Dec.{T, eqb, ltb, leb, eqb→eq}
-use borrow.Author.Tests.{ltb-false, leb-false, lt-ltb, le-ltb, le-leb, lt-leb, eq-eqb, ne-eqb}
+use borrow.Author.Tests.{ltb-false, leb-false, lt-ltb, le-ltb, le-leb, eq-eqb, ne-eqb}
 use Rattle.tables.specs.Facts.{true-false, true-or-false, lt-or-le}
 use Rattle.model.specs.declared.answer.SlotState.the-variants as state
 use Rattle.model.specs.declared.answer.RowState.the-variants as row
@@ -22,12 +22,13 @@ use Rattle.model.specs.Tests.{some?, count, first, isNone}
 use Rattle.model.specs.Ledger.{Ledger, LedgerShape, firstOf, noBoard, notInForce}
 use Rattle.model.specs.Report.{markOf, open?}
 use Rattle.model.specs.Promise.{valuesAt}
-use Rattle.model.specs.Representation.{State, lentOf, ruleOr, ruleAt, killerOf, Represents}
+use Rattle.model.specs.Representation.{State, lentOf, ruleOr, ruleAt, killerOf, noCalls, Represents}
 use Rattle.model.specs.Questions.{boardConditions, callConditions, slotConditions, ruleConditions, rowConditions, supportConditions, slotsHeld, columnsHeld, rowsHeld, boardChecks, callChecks, slotChecks, ruleChecks, rowChecks, supportChecks, maskOf, slotsNumber, slotsValues, slotsBy, slotsAnswer, SlotsPromise, stateNumber, stateBy, stateAnswer, StateMeans, StatePromise, rowNumber, rowBy, rowAnswer, RowMeans, RowPromise, bytesBy, rowBytesAnswer, RowBytesPromise, supportNumber, supports?, foundRow, supportBy, supportAnswer, SupportMeans, SupportPromise}
 use Rattle.model.specs.Laws.Tests.{or-false, and→, →and, →T, T→, →some, →eqb, none-passes}
 use Rattle.model.specs.Laws.Theory.{open-viable, struck-caused, row-records}
 use Rattle.model.specs.Laws.Shapes.{passed}
 use Rattle.model.specs.Laws.Change.{column-below}
+use Rattle.model.specs.Laws.Heads.{no-columns, counts-held, no-call, no-calls}
 
 -- THE FIRST NUMBER that passes a test
 pub first-some : (n : ℕ) (f : ℕ → Bool) → T (some? n f) → (first n f < n) × T (f (first n f))
@@ -102,12 +103,7 @@ module _ (L : Ledger) (shape : LedgerShape L) (s : State) (rep : Represents L s)
   no-rule p le = ap ruleOr (List·getD-eq-default (L .board .rules) none (omega (arith, shape .board .numbers)))
 
   pub slots-held : (c : ℕ) → slotsHeld (s .value .heads) c ≡ getD (L .board .counts) c 0
-  slots-held c =
-      ⊎-elim (rep .stored .headed .counts c)
-      (λ le.
-      List·getD-eq-default (s .value .heads .counts) 0 (omega (arith, rep .stored .headed .counts-size))
-      ∙ sym (List·getD-eq-default (L .board .counts) 0 (omega (arith, shape .board .calls))))
-      (lt-or-le c 32)
+  slots-held = counts-held (L .board) (shape .board) (s .value .heads) (rep .stored .headed)
 
   pub columns-held : (p : ℕ) → columnsHeld (s .value .heads) p ≡ length (ruleAt (L .board) p .calls)
   columns-held p =
@@ -131,38 +127,24 @@ module _ (L : Ledger) (shape : LedgerShape L) (s : State) (rep : Represents L s)
       ))
       (lt-or-le p 64)
 
-  -- a count of 0 is no call's, and an arity of 0 no rule's
-  no-call : (c : ℕ) → eqb (slotsHeld (s .value .heads) c) 0 ≡ leb (length (L .board .counts)) c
-  no-call c =
-      ap (λ (n : ℕ). eqb n 0) (slots-held c)
-      ∙ ⊎-elim
-      (λ lt. let pos = shape .board .counts c lt .0 in ne-eqb (getD (L .board .counts) c 0) 0 (λ e. omega arith) ∙ sym (lt-leb (length (L .board .counts)) c lt))
-      (λ le. eq-eqb (getD (L .board .counts) c 0) 0 (List·getD-eq-default (L .board .counts) 0 le) ∙ sym (le-leb (length (L .board .counts)) c le))
-      (lt-or-le c (length (L .board .counts)))
+  no-slots : (c : ℕ) → eqb (slotsHeld (s .value .heads) c) 0 ≡ leb (length (L .board .counts)) c
+  no-slots = no-call (L .board) (shape .board) (s .value .heads) (rep .stored .headed)
 
-  no-board : eqb (slotsHeld (s .value .heads) 0) 0 ≡ noBoard L
-  no-board =
-      no-call 0
-      ∙ ⊎-elim (λ lt. lt-leb (length (L .board .counts)) 0 lt ∙ sym (ne-eqb (length (L .board .counts)) 0 (λ e. omega arith)))
-      (λ le. le-leb (length (L .board .counts)) 0 le ∙ sym (eq-eqb (length (L .board .counts)) 0 (omega arith)))
-      (lt-or-le 0 (length (L .board .counts)))
+  no-board : noCalls (s .value .heads .counts) ≡ noBoard L
+  no-board = no-calls (L .board) (shape .board) (s .value .heads) (rep .stored .headed)
 
   not-in-force : (p : ℕ) → eqb (columnsHeld (s .value .heads) p) 0 ≡ notInForce L p
-  not-in-force p = ap (λ (n : ℕ). eqb n 0) (columns-held p) ∙ go (getD (L .board .rules) p none) refl
-    where
-      go : (o : Option Rule) → getD (L .board .rules) p none ≡ o → eqb (length (ruleOr o .calls)) 0 ≡ isNone o
-      go none e = refl
-      go (some r) e = let pos = shape .board .rules p r e .least in ne-eqb (length (r .calls)) 0 (λ e. omega arith)
+  not-in-force p = ap (λ (n : ℕ). eqb n 0) (columns-held p) ∙ no-columns (L .board) (shape .board) p
 
   -- THE CHECKS ARE THE CONDITIONS
   pub board-checks : boardChecks s ≡ boardConditions L (lentOf s)
   board-checks = rw no-board refl
 
   pub call-checks : (c : ℕ) → callChecks s c ≡ callConditions L (lentOf s) c
-  call-checks c = rw (no-board, no-call c) refl
+  call-checks c = rw (no-board, no-slots c) refl
 
   pub slot-checks : (c t : ℕ) → slotChecks s c t ≡ slotConditions L (lentOf s) c t
-  slot-checks c t = rw (no-board, no-call c, slots-held c) refl
+  slot-checks c t = rw (no-board, no-slots c, slots-held c) refl
 
   pub rule-checks : (p : ℕ) → ruleChecks s p ≡ ruleConditions L (lentOf s) p
   rule-checks p = rw (no-board, not-in-force p) refl

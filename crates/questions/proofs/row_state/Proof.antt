@@ -4,7 +4,7 @@ use native.Mathlib.Omega.{arith}
 use borrow.Author.Needs.{needs}
 use borrow.Author.Tests.{eq-eqb, ne-eqb}
 use Rattle.model.specs.Representation.{State}
-use Rattle.questions.specs.Parts.{stateOf}
+use Rattle.model.specs.Representation.{stateOf}
 use Rattle.questions.specs.Refusal.{row-bounds}
 use Rattle.questions.specs.Answers.{row-refused, row-given}
 use Rattle.questions.proofs.row_state.Statement.{statement}

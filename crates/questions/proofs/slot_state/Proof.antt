@@ -2,7 +2,7 @@
 use borrow.Author.Needs.{needs}
 use borrow.Author.Tests.{eq-eqb, ne-eqb}
 use Rattle.model.specs.Representation.{State}
-use Rattle.questions.specs.Parts.{stateOf}
+use Rattle.model.specs.Representation.{stateOf}
 use Rattle.questions.specs.Answers.{state-refused, state-given}
 use Rattle.questions.proofs.slot_state.Statement.{statement}
 use Rattle.questions.proofs.slot_state.Tie as tie

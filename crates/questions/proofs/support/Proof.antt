@@ -2,7 +2,7 @@
 use borrow.Author.Needs.{needs}
 use borrow.Author.Tests.{lt-ltb, le-ltb}
 use Rattle.model.specs.Representation.{State}
-use Rattle.questions.specs.Parts.{stateOf}
+use Rattle.model.specs.Representation.{stateOf}
 use Rattle.questions.specs.Refusal.{support-bounds}
 use Rattle.questions.specs.Answers.{support-refused, support-given}
 use Rattle.questions.proofs.support.Statement.{statement}

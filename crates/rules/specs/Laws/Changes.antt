@@ -23,7 +23,7 @@ use Rattle.change.specs.Stored.{put-stored, put-struck, put-reopened}
 use Rattle.lift.specs.Stored.{LiftStored, lift-stored}
 use Rattle.rules.specs.Checks.{putChecks, liftChecks}
 use Rattle.rules.specs.Changes.{putReport, liftReport, rulesOf, BroughtIn, TakenOut}
-use Rattle.rules.specs.Laws.Promised.{promise-refused, promise-accepted}
+use Rattle.model.specs.Laws.Promised.{promise-refused, promise-accepted}
 use Rattle.rules.specs.Laws.Checks.{put-checks-same, lift-checks-same}
 
 -- the empty draft is no draft
