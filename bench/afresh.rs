@@ -1,41 +1,55 @@
-//! The other side of the benchmark: a board that filters afresh after each change. All slots are open at first and every rule in force is on the work list;
-//! a rule is revised by its rows, which are held as masks of slots, and a call that loses a slot puts the other rules on it back on the list.
+//! The other side of the benchmark: a board that filters afresh after each change. All slots are open at first and every rule in force is on the work list. A rule
+//! is revised by its rows; a call that loses a slot puts the other rules on it back on the list. Rows are held column by column as masks of one slot, so that the
+//! compiler can treat several at once.
 #![crate_type = "rlib"]
 
 const CALLS: usize = 32;
 const RULES: usize = 64;
 
-/// A rule's rows, each a bit for the slot of each column; all bits in a spare column.
 #[derive(Clone, Default)]
 pub struct Rule {
     calls: Vec<usize>,
-    rows: Vec<[u32; 4]>,
+    /// a mask for each row, column by column
+    columns: Vec<Vec<u32>>,
+}
+
+/// The slots of each column that stand in a row of open slots, of a rule with N columns.
+fn supported<const N: usize>(rule: &Rule, open: &[u32; CALLS]) -> [u32; 4] {
+    let rows = rule.columns[0].len();
+    let columns: [&[u32]; N] = std::array::from_fn(|k| &rule.columns[k][..rows]);
+    let open: [u32; N] = std::array::from_fn(|k| open[rule.calls[k]]);
+    let mut found = [0; N];
+    for w in 0..rows {
+        let mut alive = true;
+        for k in 0..N {
+            alive &= columns[k][w] & open[k] != 0;
+        }
+        let keep = (alive as u32).wrapping_neg();
+        for k in 0..N {
+            found[k] |= columns[k][w] & keep;
+        }
+    }
+    let mut supported = [0; 4];
+    supported[..N].copy_from_slice(&found);
+    supported
 }
 
 impl Rule {
     pub fn new(calls: &[u8], rows: &[[u8; 4]]) -> Self {
-        let mask = |slot: u8| if slot == 255 { !0 } else { 1 << slot };
+        let column = |k: usize| rows.iter().map(|row| 1 << row[k]).collect();
         Rule {
             calls: calls.iter().map(|call| *call as usize).collect(),
-            rows: rows.iter().map(|row| row.map(mask)).collect(),
+            columns: (0..calls.len()).map(column).collect(),
         }
     }
 
-    /// The slots of each column that stand in a row of open slots.
     fn supported(&self, open: &[u32; CALLS]) -> [u32; 4] {
-        let mut columns = [!0; 4];
-        for (column, call) in columns.iter_mut().zip(&self.calls) {
-            *column = open[*call];
+        match self.calls.len() {
+            1 => supported::<1>(self, open),
+            2 => supported::<2>(self, open),
+            3 => supported::<3>(self, open),
+            _ => supported::<4>(self, open),
         }
-        let mut supported = [0; 4];
-        for row in &self.rows {
-            if (0..4).all(|k| row[k] & columns[k] != 0) {
-                for k in 0..4 {
-                    supported[k] |= row[k];
-                }
-            }
-        }
-        supported
     }
 }
 

@@ -130,30 +130,39 @@ fn everyday() -> Case {
     }
 }
 
-/// Nanoseconds that reading the clock takes by itself, the least of many readings.
-fn clock_cost() -> f64 {
-    let once = |_| {
-        let start = Instant::now();
-        start.elapsed().as_nanos() as u64
-    };
-    let mut times: Vec<u64> = (0..10001).map(once).collect();
-    times.sort();
-    times[times.len() / 2] as f64
+/// Nanoseconds that reading the clock takes by itself.
+fn clock_cost() -> u64 {
+    let mut times = vec![];
+    (0..10001).for_each(|_| timed(&mut times, || ()));
+    median(&times)
 }
 
-/// Nanoseconds of each timed command, kept apart by kind.
-#[derive(Default)]
+/// Nanoseconds of each timed command: by kind, and for each turn of a round those of all rounds.
 struct Times {
-    lifts: Vec<u64>,
-    puts: Vec<u64>,
+    lifts: Vec<Vec<u64>>,
+    puts: Vec<Vec<u64>>,
 }
 
-/// The mean without the slowest hundredth, in which others had the machine.
-fn mean(times: &[u64], clock: f64) -> f64 {
+impl Times {
+    fn of(case: &Case) -> Self {
+        let none = vec![vec![]; case.turns.len()];
+        Times {
+            lifts: none.clone(),
+            puts: none,
+        }
+    }
+}
+
+fn median(times: &[u64]) -> u64 {
     let mut times = times.to_vec();
     times.sort();
-    times.truncate((times.len() * 99).div_ceil(100));
-    times.iter().sum::<u64>() as f64 / times.len() as f64 - clock
+    times[times.len() / 2]
+}
+
+/// The mean over the turns of each one's median, less what reading the clock takes.
+fn mean(turns: &[Vec<u64>], clock: u64) -> f64 {
+    let sum: u64 = turns.iter().map(|times| median(times)).sum();
+    sum as f64 / turns.len() as f64 - clock as f64
 }
 
 /// The open slots after each lift and put of one round.
@@ -199,11 +208,14 @@ impl Side for Ours {
         }
     }
 
+    // a function of its own, so that a profile can tell its work from that of heads and rows
+    #[inline(never)]
     fn put(&mut self) {
         let report = self.board.put().unwrap();
         self.changes.struck += report.struck;
     }
 
+    #[inline(never)]
     fn lift(&mut self, number: u8) {
         let report = self.board.lift(number).unwrap();
         self.changes.reopened += report.reopened;
@@ -265,14 +277,14 @@ fn timed(times: &mut Vec<u64>, work: impl FnOnce()) {
 
 /// One round: each rule of the turns is lifted and put again.
 fn round<S: Side>(side: &mut S, case: &Case, times: &mut Times, mut shown: Option<&mut Shown>) {
-    for place in &case.turns {
+    for (turn, place) in case.turns.iter().enumerate() {
         let rule = &case.rules[*place];
-        timed(&mut times.lifts, || side.lift(rule.number));
+        timed(&mut times.lifts[turn], || side.lift(rule.number));
         if let Some(shown) = &mut shown {
             shown.push(side.shown());
         }
         side.prepare(rule);
-        timed(&mut times.puts, || side.put());
+        timed(&mut times.puts[turn], || side.put());
         if let Some(shown) = &mut shown {
             shown.push(side.shown());
         }
@@ -288,11 +300,11 @@ fn ready<S: Side>(case: &Case) -> (S, Shown) {
         side.put();
         shown.push(side.shown());
     }
-    round(&mut side, case, &mut Times::default(), Some(&mut shown));
+    round(&mut side, case, &mut Times::of(case), Some(&mut shown));
     (side, shown)
 }
 
-fn measure(case: &Case, clock: f64) {
+fn measure(case: &Case, clock: u64) {
     let (mut ours, ours_shown) = ready::<Ours>(case);
     let (mut afresh, afresh_shown) = ready::<Afresh>(case);
     let (mut native, native_shown) = ready::<AfreshNative>(case);
@@ -302,7 +314,7 @@ fn measure(case: &Case, clock: f64) {
         case.name
     );
     ours.changes = Changes::default();
-    let mut times = [Times::default(), Times::default(), Times::default()];
+    let mut times = [Times::of(case), Times::of(case), Times::of(case)];
     for _ in 0..case.rounds {
         round(&mut ours, case, &mut times[0], None);
         round(&mut afresh, case, &mut times[1], None);
@@ -358,7 +370,7 @@ fn line(name: &str, command: &str, changes: String, [ours, afresh, native]: [f64
 fn main() {
     let only = std::env::args().nth(1);
     let clock = clock_cost();
-    println!("Nanoseconds per command, a mean; reading the clock, {:.0} ns, is taken off. A ratio above 1: the library is faster.\n", clock);
+    println!("Nanoseconds per command, the mean over the turns of a round of each one's median; reading the clock, {} ns, is taken off.\nA ratio above 1: the library is faster.\n", clock);
     println!(
         "| {:10} | {:4} | {:31} | {:>9} | {:>9} | {:5} | {:>9} | {:5} |",
         "board", "kind", "slots, per command", "library", "afresh", "ratio", "native", "ratio"
