@@ -67,13 +67,7 @@ impl Board {
         for (mask, count) in full.iter_mut().zip(counts) {
             *mask = !0 >> (32 - count);
         }
-        Board {
-            full,
-            open: full,
-            rules: vec![Rule::default(); RULES],
-            in_force: 0,
-            on_call: [0; CALLS],
-        }
+        Board { full, open: full, rules: vec![Rule::default(); RULES], in_force: 0, on_call: [0; CALLS] }
     }
 
     pub fn open(&self) -> &[u32; CALLS] {

@@ -23,11 +23,7 @@ impl Rule {
         let mut seen = vec![];
         rows.retain(|row| !seen.contains(row) && (seen.push(*row), true).1);
         rows.truncate(64);
-        Rule {
-            number: number as u8,
-            calls: calls.iter().map(|call| *call as u8).collect(),
-            rows,
-        }
+        Rule { number: number as u8, calls: calls.iter().map(|call| *call as u8).collect(), rows }
     }
 }
 
@@ -62,14 +58,10 @@ fn busiest() -> Case {
 fn dense(name: &'static str, number_of_rules: usize, rounds: usize) -> Case {
     let mut state: u64 = 13;
     let mut below = |n: usize| {
-        state = state
-            .wrapping_mul(6364136223846793005)
-            .wrapping_add(1442695040888963407);
+        state = state.wrapping_mul(6364136223846793005).wrapping_add(1442695040888963407);
         (state >> 33) as usize % n
     };
-    let plans: Vec<Vec<usize>> = (0..8)
-        .map(|_| (0..32).map(|_| below(32)).collect())
-        .collect();
+    let plans: Vec<Vec<usize>> = (0..8).map(|_| (0..32).map(|_| below(32)).collect()).collect();
     let mut rules = vec![];
     for r in 0..number_of_rules {
         let calls = [r % 32, (r + 1 + r / 32) % 32, (r + 5 + 2 * (r / 32)) % 32];
@@ -78,13 +70,7 @@ fn dense(name: &'static str, number_of_rules: usize, rounds: usize) -> Case {
         rows.extend((8..64).map(|_| vec![below(32), below(32), below(32)]));
         rules.push(Rule::new(r, &calls, rows));
     }
-    Case {
-        name,
-        counts: vec![32; 32],
-        turns: (0..rules.len()).collect(),
-        rules,
-        rounds,
-    }
+    Case { name, counts: vec![32; 32], turns: (0..rules.len()).collect(), rules, rounds }
 }
 
 /// Equal slots from call to call, and one rule at the end of the chain that leaves a single slot: putting it strikes 992 slots, and lifting it reopens them.
@@ -92,42 +78,21 @@ fn chain() -> Case {
     let link = |c: usize| Rule::new(c, &[c, c + 1], (0..32).map(|s| vec![s, s]).collect());
     let mut rules: Vec<Rule> = (0..31).map(link).collect();
     rules.push(Rule::new(63, &[0], vec![vec![0]]));
-    Case {
-        name: "long chain",
-        counts: vec![32; 32],
-        rules,
-        turns: vec![31],
-        rounds: 2000,
-    }
+    Case { name: "long chain", counts: vec![32; 32], rules, turns: vec![31], rounds: 2000 }
 }
 
 /// Six calls of eight slots: each goes before the next, two have slots of their own, and three lie apart from each other.
 fn everyday() -> Case {
     let pairs = |holds: fn(usize, usize) -> bool| {
         let all = (0..8).flat_map(|a| (0..8).map(move |b| (a, b)));
-        all.filter(|(a, b)| holds(*a, *b))
-            .map(|(a, b)| vec![a, b])
-            .collect::<Vec<_>>()
+        all.filter(|(a, b)| holds(*a, *b)).map(|(a, b)| vec![a, b]).collect::<Vec<_>>()
     };
-    let mut rules: Vec<Rule> = (0..5)
-        .map(|c| Rule::new(c, &[c, c + 1], pairs(|a, b| a < b)))
-        .collect();
+    let mut rules: Vec<Rule> = (0..5).map(|c| Rule::new(c, &[c, c + 1], pairs(|a, b| a < b))).collect();
     rules.push(Rule::new(5, &[0], vec![vec![0], vec![1]]));
     rules.push(Rule::new(6, &[3], vec![vec![3], vec![5]]));
-    let apart = (0..8).flat_map(|a| {
-        [
-            vec![a, (a + 2) % 8, (a + 4) % 8],
-            vec![a, (a + 3) % 8, (a + 5) % 8],
-        ]
-    });
+    let apart = (0..8).flat_map(|a| [vec![a, (a + 2) % 8, (a + 4) % 8], vec![a, (a + 3) % 8, (a + 5) % 8]]);
     rules.push(Rule::new(7, &[1, 3, 5], apart.collect()));
-    Case {
-        name: "everyday",
-        counts: vec![8; 6],
-        turns: (0..rules.len()).collect(),
-        rules,
-        rounds: 2000,
-    }
+    Case { name: "everyday", counts: vec![8; 6], turns: (0..rules.len()).collect(), rules, rounds: 2000 }
 }
 
 /// Nanoseconds that reading the clock takes by itself.
@@ -146,10 +111,7 @@ struct Times {
 impl Times {
     fn of(case: &Case) -> Self {
         let none = vec![vec![]; case.turns.len()];
-        Times {
-            lifts: none.clone(),
-            puts: none,
-        }
+        Times { lifts: none.clone(), puts: none }
     }
 }
 
@@ -202,9 +164,7 @@ impl Side for Ours {
     fn prepare(&mut self, rule: &Rule) {
         self.board.head(rule.number, &rule.calls).unwrap();
         for row in &rule.rows {
-            self.board
-                .command(&[3, row[0], row[1], row[2], row[3]])
-                .unwrap();
+            self.board.command(&[3, row[0], row[1], row[2], row[3]]).unwrap();
         }
     }
 
@@ -223,11 +183,7 @@ impl Side for Ours {
     }
 
     fn shown(&self) -> [u32; 32] {
-        std::array::from_fn(|call| {
-            self.board
-                .open_slots(call as u8)
-                .map_or(0, |open| open.mask)
-        })
+        std::array::from_fn(|call| self.board.open_slots(call as u8).map_or(0, |open| open.mask))
     }
 }
 
@@ -308,11 +264,7 @@ fn measure(case: &Case, clock: u64) {
     let (mut ours, ours_shown) = ready::<Ours>(case);
     let (mut afresh, afresh_shown) = ready::<Afresh>(case);
     let (mut native, native_shown) = ready::<AfreshNative>(case);
-    assert!(
-        ours_shown == afresh_shown && ours_shown == native_shown,
-        "{}: other open slots",
-        case.name
-    );
+    assert!(ours_shown == afresh_shown && ours_shown == native_shown, "{}: other open slots", case.name);
     ours.changes = Changes::default();
     let mut times = [Times::of(case), Times::of(case), Times::of(case)];
     for _ in 0..case.rounds {
@@ -321,35 +273,15 @@ fn measure(case: &Case, clock: u64) {
         round(&mut native, case, &mut times[2], None);
     }
     let last = (ours.shown(), afresh.shown(), native.shown());
-    assert!(
-        last.0 == last.1 && last.0 == last.2,
-        "{}: other open slots at the end",
-        case.name
-    );
+    assert!(last.0 == last.1 && last.0 == last.2, "{}: other open slots at the end", case.name);
     let commands = (case.turns.len() * case.rounds) as f64;
     let each = |n: usize| n as f64 / commands;
     let changes = ours.changes;
-    let (struck, reopened, touched) = (
-        each(changes.struck),
-        each(changes.reopened),
-        each(changes.touched),
-    );
-    line(
-        case.name,
-        "put",
-        format!("{:.1} struck", struck),
-        times.each_ref().map(|t| mean(&t.puts, clock)),
-    );
+    let (struck, reopened, touched) = (each(changes.struck), each(changes.reopened), each(changes.touched));
+    line(case.name, "put", format!("{:.1} struck", struck), times.each_ref().map(|t| mean(&t.puts, clock)));
     let lifted = format!("{:.1} reopened of {:.1} touched", reopened, touched);
-    line(
-        case.name,
-        "lift",
-        lifted,
-        times.each_ref().map(|t| mean(&t.lifts, clock)),
-    );
-    let both = times
-        .each_ref()
-        .map(|t| (mean(&t.puts, clock) + mean(&t.lifts, clock)) / 2.0);
+    line(case.name, "lift", lifted, times.each_ref().map(|t| mean(&t.lifts, clock)));
+    let both = times.each_ref().map(|t| (mean(&t.puts, clock) + mean(&t.lifts, clock)) / 2.0);
     line(case.name, "both", String::new(), both);
 }
 
@@ -375,14 +307,10 @@ fn main() {
         "| {:10} | {:4} | {:31} | {:>9} | {:>9} | {:5} | {:>9} | {:5} |",
         "board", "kind", "slots, per command", "library", "afresh", "ratio", "native", "ratio"
     );
-    println!("|------------|------|---------------------------------|-----------|-----------|-------|-----------|-------|");
-    for case in [
-        busiest(),
-        dense("dense", 24, 60),
-        dense("overfull", 64, 20),
-        chain(),
-        everyday(),
-    ] {
+    println!(
+        "|------------|------|---------------------------------|-----------|-----------|-------|-----------|-------|"
+    );
+    for case in [busiest(), dense("dense", 24, 60), dense("overfull", 64, 20), chain(), everyday()] {
         if only.as_ref().is_none_or(|name| name == case.name) {
             measure(&case, clock);
         }

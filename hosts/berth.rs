@@ -199,11 +199,7 @@ pub mod lent {
             )
         };
         *value = reply.value;
-        let report = Report {
-            struck: reply.struck,
-            reopened: reply.reopened,
-            touched: reply.touched,
-        };
+        let report = Report { struck: reply.struck, reopened: reply.reopened, touched: reply.touched };
         answer(reply.number, report)
     }
 
@@ -237,10 +233,7 @@ pub mod lent {
     impl<'a> Memory<'a> {
         pub fn open_slots(self, call: u8) -> Answer<OpenSlots> {
             let reply = ask!(berth_open_slots, self, call);
-            let given = OpenSlots {
-                mask: reply.mask,
-                ones: reply.ones,
-            };
+            let given = OpenSlots { mask: reply.mask, ones: reply.ones };
             answer(reply.number, given)
         }
 
@@ -315,13 +308,7 @@ impl Board {
 
     /// A command by its bytes.
     pub fn command(&mut self, bytes: &[u8]) -> Answer<Report> {
-        lent::command(
-            &mut self.value,
-            bytes,
-            &mut self.rows,
-            &mut self.killers,
-            &mut self.slots,
-        )
+        lent::command(&mut self.value, bytes, &mut self.rows, &mut self.killers, &mut self.slots)
     }
 
     /// Kind 1: a new board with these slot counts, of at most 32 calls; rules and draft are gone.
@@ -352,12 +339,7 @@ impl Board {
 
     /// The value and the buffers, to look at.
     pub fn memory(&self) -> lent::Memory<'_> {
-        lent::Memory {
-            value: &self.value,
-            rows: &self.rows,
-            killers: &self.killers,
-            slots: &self.slots,
-        }
+        lent::Memory { value: &self.value, rows: &self.rows, killers: &self.killers, slots: &self.slots }
     }
 
     /// The open slots of a call.

@@ -30,11 +30,7 @@ pub type Open = Vec<Vec<bool>>;
 
 impl Ledger {
     pub fn fresh() -> Self {
-        Ledger {
-            counts: vec![],
-            draft: None,
-            rules: vec![None; 64],
-        }
+        Ledger { counts: vec![], draft: None, rules: vec![None; 64] }
     }
 
     fn rule(&self, number: u8) -> Option<&Rule> {
@@ -70,8 +66,7 @@ impl Ledger {
 
     fn counts_refusal(counts: &[u8]) -> u8 {
         let calls = counts.iter().position(|n| *n == 0).unwrap_or(32);
-        let bad =
-            calls == 0 || counts.iter().any(|n| *n > 32) || counts[calls..].iter().any(|n| *n != 0);
+        let bad = calls == 0 || counts.iter().any(|n| *n > 32) || counts[calls..].iter().any(|n| *n != 0);
         if bad {
             5
         } else {
@@ -109,12 +104,7 @@ impl Ledger {
             return 13;
         }
         let (slots, spare) = body.split_at(rule.calls.len());
-        if rule
-            .calls
-            .iter()
-            .zip(slots)
-            .any(|(c, s)| *s >= self.counts[*c as usize])
-        {
+        if rule.calls.iter().zip(slots).any(|(c, s)| *s >= self.counts[*c as usize]) {
             return 14;
         }
         if spare.iter().any(|s| *s != 255) {
@@ -156,13 +146,7 @@ impl Ledger {
             }
             2 => {
                 let calls = body[2..2 + body[1] as usize].to_vec();
-                self.draft = Some((
-                    body[0],
-                    Rule {
-                        calls,
-                        rows: vec![],
-                    },
-                ));
+                self.draft = Some((body[0], Rule { calls, rows: vec![] }));
             }
             3 => {
                 let (_, rule) = self.draft.as_mut().unwrap();
@@ -179,19 +163,14 @@ impl Ledger {
     /// The open slots. At first all are; pass after pass over the rules, a slot that stands in no row of open slots is struck, until a pass strikes none.
     /// Fewer passes than that make it wrong: the tests are tried with one.
     pub fn open_slots(&self, passes: usize) -> Open {
-        let mut open: Open = self
-            .counts
-            .iter()
-            .map(|n| vec![true; *n as usize])
-            .collect();
+        let mut open: Open = self.counts.iter().map(|n| vec![true; *n as usize]).collect();
         for _ in 0..passes {
             let mut struck = false;
             for rule in self.rules.iter().flatten() {
                 for (column, call) in rule.calls.iter().enumerate() {
                     for slot in 0..self.counts[*call as usize] {
                         let supported = rule.rows.iter().any(|row| {
-                            row[column] == slot
-                                && rule.cells(*row).all(|(c, s)| open[c as usize][s as usize])
+                            row[column] == slot && rule.cells(*row).all(|(c, s)| open[c as usize][s as usize])
                         });
                         if open[*call as usize][slot as usize] && !supported {
                             open[*call as usize][slot as usize] = false;
@@ -227,11 +206,7 @@ impl Ledger {
 
     pub fn support_refusal(&self, number: u8, column: u8, slot: u8) -> u8 {
         let Some(rule) = self.rule(number) else {
-            return if self.counts.is_empty() {
-                6
-            } else {
-                self.rule_refusal(number)
-            };
+            return if self.counts.is_empty() { 6 } else { self.rule_refusal(number) };
         };
         match rule.calls.get(column as usize) {
             None => 21,
