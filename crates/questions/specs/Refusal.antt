@@ -11,8 +11,7 @@ use borrow.Author.Tests.{ltb-true, ltb-false, leb-false}
 use Rattle.model.specs.Ledger.{firstOf, badNumber}
 use Rattle.model.specs.Representation.{State, lentOf}
 use Rattle.model.specs.Questions.{slotsHeld, columnsHeld, rowsHeld, boardChecks, callChecks, slotChecks, ruleChecks, rowChecks, supportChecks}
-use Rattle.model.specs.Laws.Shapes.{positive, passed, first-append}
-use Rattle.model.specs.Laws.Entry.{lent-sizes}
+use Rattle.model.specs.Laws.Shapes.{lent-sizes, positive, passed, first-append}
 use Rattle.questions.specs.Parts.{Searchable}
 
 -- a check that refuses decides, whatever is checked after it

@@ -1,7 +1,8 @@
 -- What the entry refuses by itself is by lengths or form; what it hands on is the kind's.
 use mathlib.Core.Path.{sym, _∙_}
 use borrow.Author.Needs.{needs}
-use Rattle.model.specs.Laws.Entry.{lent-sizes, refused-lengths, refused-end, refused-read, refused-left-over}
+use Rattle.model.specs.Laws.Shapes.{lent-sizes}
+use Rattle.model.specs.Laws.Entry.{refused-lengths, refused-end, refused-read, refused-left-over}
 use Rattle.commands.specs.Obeys.{obeys-promise}
 use Rattle.board.proofs.command.Statement.{statement}
 use Rattle.board.proofs.command.Tie as tie

@@ -1,14 +1,14 @@
 -- HOW THE ENTRY'S PROMISE IS KEPT: a command whose lengths or form are wrong is refused under the first number that holds, and any other is left to the
 -- function of its kind. Assumes nothing.
 use mathlib.Core.Path.{_≡_, refl, sym, ap, subst, _∙_}
-use mathlib.Core.Bool.{Bool, true, false, _&&_, cond, and-eq-true-iff}
+use mathlib.Core.Bool.{Bool, true, false, _&&_, cond}
 use mathlib.Core.List.{List, [], _∷_, _++_}
 use mathlib.Core.Logic.{_⊎_, inl, inr}
 use Prim.Native.Nat.{ℕ, suc, _+_, _<_, _≤_}
 use native.Mathlib.Omega.{arith}
 use lib.ListN.{length, getD}
-use lib.Dec.{T, eqb, ltb, leb}
-use borrow.Author.Tests.{ltb-true, lt-ltb, le-ltb, eqb-true, not-false}
+use lib.Dec.{T, ltb, leb}
+use borrow.Author.Tests.{ltb-true, lt-ltb, le-ltb}
 use Rattle.model.specs.declared.answer.Answer.{Answer}
 use Rattle.model.specs.declared.answer.Answer.the-variants as answer
 use Rattle.model.specs.declared.command.Command.{Command}
@@ -17,7 +17,7 @@ use Rattle.model.specs.declared.command.Read.{Read}
 use Rattle.model.specs.declared.command.Read.the-variants as found
 use Rattle.model.specs.declared.command.Decoded.{Decoded}
 use Rattle.model.specs.Commands.{isKind, bodyLength, commandAt, countsAt, without, readAt}
-use Rattle.model.specs.Ledger.{Ledger, Lent, badLent, firstOf, formConditions, ownConditions, kindConditions, earlyConditions, refusal, obey, step}
+use Rattle.model.specs.Ledger.{Ledger, badLent, firstOf, formConditions, ownConditions, kindConditions, earlyConditions, refusal, obey, step}
 use Rattle.model.specs.Representation.{State, lentOf, Represents}
 use Rattle.model.specs.Promise.{valuesAt, reportValues, ReportsOf, Answered, Obeyed, KindPromise, BoardMade, Promise}
 use Rattle.model.specs.Laws.Shapes.{positive}
@@ -40,13 +40,6 @@ first-own (x ∷ xs) ys t e = go (x .0) (ltb 0 (x .1)) refl t e (λ t d. first-o
     go true true q t e k = absurd (omega (arith, ltb-true 0 (x .1) q))
     go false true q t e k = k t e
     go b false q t e k = absurd t
-
--- the lengths, where they are not refused
-pub lent-sizes : (lent : Lent) → badLent lent ≡ false → (lent .rows ≡ 16384) × (lent .killers ≡ 4096) × (lent .slots ≡ 1024)
-lent-sizes lent e =
-    let all = and-eq-true-iff (eqb (lent .rows) 16384 && eqb (lent .killers) 4096) (eqb (lent .slots) 1024) .0 (not-false _ e) in
-    let two = and-eq-true-iff (eqb (lent .rows) 16384) (eqb (lent .killers) 4096) .0 (all .0) in
-    (eqb-true (lent .rows) 16384 (two .0), eqb-true (lent .killers) 4096 (two .1), eqb-true (lent .slots) 1024 (all .1))
 
 -- what is read at a place is refused under 3 or 4 only
 pub read-numbers : (s : List ℕ) (at k n : ℕ) → readAt s at .read ≡ found.Refused k n → (n ≡ 3) ⊎ (n ≡ 4)

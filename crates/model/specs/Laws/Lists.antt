@@ -1,7 +1,7 @@
 -- DEMAND 3 OVER WHOLE LISTS, from what each step keeps. The state after a list is the ledger's, so its records are right, and the rest is theory.
 -- Assumes nothing.
 use mathlib.Core.Path.{_≡_, refl, sym, ap, subst, _∙_}
-use mathlib.Core.Bool.{Bool, true, false, true≢false, not, _&&_, cond}
+use mathlib.Core.Bool.{Bool, true, false, cond}
 use mathlib.Core.List.{List}
 use Prim.Native.Nat.{ℕ}
 use native.Mathlib.Omega.{arith}
@@ -18,7 +18,7 @@ use Rattle.model.specs.Promise.{Promise}
 use Rattle.model.specs.Lists.{Runs, done, then, standing, Turn, Demand3, Demand3Two}
 use Rattle.model.specs.Laws.Theory.{open-viable, struck-caused, row-records, no-ring, escape-from-all, plan-open, viable-mono}
 use Rattle.model.specs.Laws.Answers.{refused-by}
-use Rattle.model.specs.Laws.Shapes.{shape-step, shape-fresh}
+use Rattle.model.specs.Laws.Shapes.{lent-sizes, shape-step, shape-fresh}
 use Rattle.model.specs.Laws.Fresh.{fresh-represents}
 
 -- a state that is a ledger's has what demand 3 says of one list
@@ -105,22 +105,11 @@ bad-turn m s s′ t bad =
     (rw same (standing-same (s .killers) (t .handed .killers) (t .killers)))
     (rw same (standing-same (s .slots) (t .handed .slots) (t .slots)))
 
--- the lengths that are lent are the right ones
-right-lengths : (lent : Lent) → badLent lent ≡ false → (lent .rows ≡ 16384) × (lent .killers ≡ 4096) × (lent .slots ≡ 1024)
-right-lengths lent e = go (eqb (lent .rows) 16384) refl (eqb (lent .killers) 4096) refl (eqb (lent .slots) 1024) refl e
-  where
-    go : (a : Bool) → eqb (lent .rows) 16384 ≡ a → (b : Bool) → eqb (lent .killers) 4096 ≡ b → (c : Bool) → eqb (lent .slots) 1024 ≡ c → not (a && b && c) ≡ false
-        → (lent .rows ≡ 16384) × (lent .killers ≡ 4096) × (lent .slots ≡ 1024)
-    go true p true q true r e = (eqb-true (lent .rows) 16384 p, eqb-true (lent .killers) 4096 q, eqb-true (lent .slots) 1024 r)
-    go true p true q false r e = absurd (true≢false e)
-    go true p false q c r e = absurd (true≢false e)
-    go false p b q c r e = absurd (true≢false e)
-
 -- A MEMBER HANDED THE RIGHT LENGTHS is handed what stands, and what it leaves stands after it
 module _ (L : Ledger) (m : Member) (s s′ : State) (rep : Represents L s) (t : Turn m s s′) (good : badLent (m .lent) ≡ false) where
   own-lengths : lentOf s ≡ m .lent
   own-lengths =
-      let e = right-lengths (m .lent) good in
+      let e = lent-sizes (m .lent) good in
       let r = rep .stored .row-bytes .rows-size in
       let k = rep .stored .killers-size in
       let b = rep .stored .slots-size in

@@ -1,6 +1,6 @@
 -- EVERY COMMAND KEEPS THE LEDGER'S SHAPE, whatever its bytes, refused or accepted: what a rule of good shape asks is what the table checks. Assumes nothing.
 use mathlib.Core.Path.{_≡_, refl, sym, ap, _∙_}
-use mathlib.Core.Bool.{Bool, true, false, true≢false, not, _&&_, _||_, cond}
+use mathlib.Core.Bool.{Bool, true, false, true≢false, not, _&&_, _||_, cond, and-eq-true-iff}
 use mathlib.Core.List.{List, [], _∷_, _++_}
 use mathlib.Core.Logic.{_≢_, _⊎_, inl, inr}
 use mathlib.Core.Option.{Option, none, some}
@@ -11,7 +11,7 @@ use native.Mathlib.Decide.{ℕ-discrete}
 use lib.ListN.{length, getD, take, drop, set, replicate, length-set, length-take, length-append, List·getD-append}
 use lib.Seq.{getD-set-same, getD-set-other, getD-take, getD-append-seam, length-take-le}
 use lib.Dec.{T, eqb, ltb, leb}
-use borrow.Author.Tests.{ltb-true, ltb-false, leb-false, eqb-false, eq-eqb}
+use borrow.Author.Tests.{ltb-true, ltb-false, leb-false, eqb-true, eqb-false, eq-eqb, not-false}
 use Rattle.tables.specs.Facts.{true-false}
 use Rattle.model.specs.declared.command.Head.{Head}
 use Rattle.model.specs.declared.command.Row.{Row}
@@ -42,6 +42,13 @@ passed (x ∷ xs) t e = go (x .0) (ltb 0 (x .1)) refl t e (λ t e. passed xs t e
     go true true q t e k = absurd (omega (arith, ltb-true 0 (x .1) q))
     go false true q t e k = (refl, k t e)
     go b false q t e k = absurd t
+
+-- the lengths, where they are not refused
+pub lent-sizes : (lent : Lent) → badLent lent ≡ false → (lent .rows ≡ 16384) × (lent .killers ≡ 4096) × (lent .slots ≡ 1024)
+lent-sizes lent e =
+    let all = and-eq-true-iff (eqb (lent .rows) 16384 && eqb (lent .killers) 4096) (eqb (lent .slots) 1024) .0 (not-false _ e) in
+    let two = and-eq-true-iff (eqb (lent .rows) 16384) (eqb (lent .killers) 4096) .0 (all .0) in
+    (eqb-true (lent .rows) 16384 (two .0), eqb-true (lent .killers) 4096 (two .1), eqb-true (lent .slots) 1024 (all .1))
 
 -- a board without rules
 pub none-there : (n p : ℕ) → _≡_ {A = Option Rule} (getD (replicate n none) p none) none
