@@ -57,13 +57,10 @@ pub fn turn(
                 written,
             }
         }
-        Read::End => {
-            let read = input.len();
-            Progress {
-                value,
-                read,
-                written: place,
-            }
-        }
+        Read::End => Progress {
+            value,
+            read: input.len(),
+            written: place,
+        },
     }
 }

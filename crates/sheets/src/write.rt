@@ -39,7 +39,7 @@ fn part(input: &[u8], n: usize, from: usize) -> usize {
     if input.len() < n {
         return 0;
     }
-    let mut out = [0u8; 363364];
+    let mut out = [0u8; sheet::ROOM];
     let m = made(&input[..n], &mut out);
     if from <= m {
         io::write_all(STDOUT_FILENO, &out[from..m]);
