@@ -19,12 +19,16 @@ fn raw(title: &[u8], bytes: &[u8]) {
     crate::write::whole(title, &input, n);
 }
 
-// Refusals 3 and 4: nothing after them is read.
-fn files() {
+// Refusal 3: nothing after it is read.
+fn kinds() {
     raw(b"empty input", b"");
     raw(b"kind 0", b"0");
     raw(b"kind 255", b"255; 4");
     on_board(b"kind 6 in the middle", b"2", b"2 0 1 0 255 255 255; 6; 4");
+}
+
+// Refusal 4.
+fn cut_bodies() {
     raw(b"board cut short", b"1 2 0");
     on_board(b"head cut by one byte", b"2", b"2 0 1 0 255 255");
     on_board(b"row cut short", b"2 3", b"2 0 2 0 1 255 255; 3 0");
@@ -40,7 +44,7 @@ fn boards() {
     raw(b"no board", b"2 0 1 0 255 255 255; 3 0 255 255 255; 4; 5 0");
 }
 
-// Refusals 7 to 15.
+// Refusals 7 to 12, 14 and 15.
 fn drafts() {
     on_board(
         b"head numbers",
@@ -68,8 +72,16 @@ fn changes() {
         b"2 2",
         b"2 0 1 0 255 255 255; 4; 2 0 1 1 255 255 255; 4; 5 0; 4; 4",
     );
+}
+
+// A rule without rows strikes every slot of its call, and no other call.
+fn closed_calls() {
     on_board(b"nothing open", b"2 3", b"2 0 1 0 255 255 255; 4");
     on_board(b"and lifted", b"2 3", b"2 0 1 0 255 255 255; 4; 5 0");
+}
+
+// A second board clears everything; one that is refused changes nothing.
+fn second_boards() {
     on_board(
         b"a second board",
         b"2 2",
@@ -135,10 +147,13 @@ fn longest() {
 }
 
 fn main() {
-    files();
+    kinds();
+    cut_bodies();
     boards();
     drafts();
     changes();
+    closed_calls();
+    second_boards();
     samples();
     full_draft();
     chain();
