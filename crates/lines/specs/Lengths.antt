@@ -80,8 +80,8 @@ accepted-most k s r lk ls lr zero =
         (λ (e : r ≡ 0). omega (arith, four-digits s (omega arith), one-digit r (omega arith)))
         zero
 
--- the line of a refused one: a byte for its kind, and a refusal's number
-pub refused-most : (k n : ℕ) → k ≤ 255 → n ≤ 99 → length (refusedLine k n) ≤ 11
+-- the line of a refused one: a byte for its kind, and one for the refusal's number
+pub refused-most : (k n : ℕ) → k ≤ 255 → n ≤ 255 → length (refusedLine k n) ≤ 11
 refused-most k n lk ln =
     omega (
       arith,
@@ -89,7 +89,7 @@ refused-most k n lk ln =
       spaced-length k (n ∷ []),
       spaced-length n [],
       three-digits k (omega arith),
-      two-digits n (omega arith),
+      three-digits n (omega arith),
     )
 
 -- the line of a call: at most 91 bytes, with all 32 slots open, whatever the slot bytes are

@@ -5,6 +5,7 @@ ghost use Rattle.model.specs.Ledger.{badLent};
 ghost use Rattle.model.specs.Representation.{freshHeads, emptyDraft, freshValue};
 
 // The calls and the heads of the rules in force.
+#[repr(C)]
 pub struct Heads {
     // slots of each call; 0 after the last call
     pub counts: [u8; 32],
@@ -17,6 +18,7 @@ pub struct Heads {
 }
 
 // The rule that is being written. An arity of 0 means that there is none.
+#[repr(C)]
 pub struct Draft {
     // the number that it is to come into force under
     pub number: u8,
@@ -29,6 +31,7 @@ pub struct Draft {
     pub rows: [u8; 256],
 }
 
+#[repr(C)]
 pub struct Value {
     pub heads: Heads,
     pub draft: Draft,

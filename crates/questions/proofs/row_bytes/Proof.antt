@@ -2,8 +2,7 @@
 use native.Mathlib.Nat.{add-sub-cancel-left}
 use native.Mathlib.Omega.{arith}
 use borrow.Author.Needs.{needs}
-use Rattle.model.specs.Representation.{State}
-use Rattle.model.specs.Representation.{stateOf}
+use Rattle.model.specs.Representation.{State, stateOf}
 use Rattle.questions.specs.Refusal.{row-bounds}
 use Rattle.questions.specs.Answers.{row-bytes-refused, row-bytes-given}
 use Rattle.questions.proofs.row_bytes.Statement.{statement}

@@ -3,8 +3,7 @@ use mathlib.Core.Path.{refl}
 use native.Mathlib.Omega.{arith}
 use borrow.Author.Needs.{needs}
 use borrow.Author.Tests.{eq-eqb, ne-eqb}
-use Rattle.model.specs.Representation.{State}
-use Rattle.model.specs.Representation.{stateOf}
+use Rattle.model.specs.Representation.{State, stateOf}
 use Rattle.questions.specs.Refusal.{row-bounds}
 use Rattle.questions.specs.Answers.{row-refused, row-given}
 use Rattle.questions.proofs.row_state.Statement.{statement}

@@ -1,8 +1,7 @@
 -- The slot's refusal is the answer's; where there is none, the code's test of the slot's byte is the definition's.
 use borrow.Author.Needs.{needs}
 use borrow.Author.Tests.{eq-eqb, ne-eqb}
-use Rattle.model.specs.Representation.{State}
-use Rattle.model.specs.Representation.{stateOf}
+use Rattle.model.specs.Representation.{State, stateOf}
 use Rattle.questions.specs.Answers.{state-refused, state-given}
 use Rattle.questions.proofs.slot_state.Statement.{statement}
 use Rattle.questions.proofs.slot_state.Tie as tie

@@ -1,8 +1,7 @@
 -- The refusal of the checks is the answer's; where there is none, the search may look at every row of the rule, and what it finds is the definition's.
 use borrow.Author.Needs.{needs}
 use borrow.Author.Tests.{lt-ltb, le-ltb}
-use Rattle.model.specs.Representation.{State}
-use Rattle.model.specs.Representation.{stateOf}
+use Rattle.model.specs.Representation.{State, stateOf}
 use Rattle.questions.specs.Refusal.{support-bounds}
 use Rattle.questions.specs.Answers.{support-refused, support-given}
 use Rattle.questions.proofs.support.Statement.{statement}

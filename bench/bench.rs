@@ -1,0 +1,318 @@
+//! The benchmark: lifts and puts through the static library, against a board that filters afresh (afresh.rs), compiled once as it is and once for the machine
+//! that it runs on. Only kinds 4 and 5 are timed; heads and rows are sent outside the clock. After each command all sides have to show the same open slots.
+#[path = "../hosts/berth.rs"]
+mod berth;
+
+use std::time::Instant;
+
+/// A rule to lift and put: its number, calls and rows.
+#[derive(Clone)]
+struct Rule {
+    number: u8,
+    calls: Vec<u8>,
+    rows: Vec<[u8; 4]>,
+}
+
+impl Rule {
+    fn new(number: usize, calls: &[usize], rows: Vec<Vec<usize>>) -> Self {
+        let filled = |row: &Vec<usize>| {
+            let slot = |k: usize| row.get(k).map_or(255, |slot| *slot as u8);
+            [slot(0), slot(1), slot(2), slot(3)]
+        };
+        let mut rows: Vec<[u8; 4]> = rows.iter().map(filled).collect();
+        let mut seen = vec![];
+        rows.retain(|row| !seen.contains(row) && (seen.push(*row), true).1);
+        rows.truncate(64);
+        Rule { number: number as u8, calls: calls.iter().map(|call| *call as u8).collect(), rows }
+    }
+}
+
+/// A board to measure: all rules are in force, and some of them are lifted and put again in turn.
+struct Case {
+    name: &'static str,
+    counts: Vec<u8>,
+    rules: Vec<Rule>,
+    /// places in `rules`
+    turns: Vec<usize>,
+    rounds: usize,
+}
+
+/// Order 13's board.
+fn busiest() -> Case {
+    let rule = |r: usize| {
+        let m = if r >= 32 && r % 2 == 0 { 31 } else { 32 };
+        let rows = (0..64).map(|w| vec![w % m, (w + w / m) % m]);
+        Rule::new(r, &[r % 32, (r + 1) % 32], rows.collect())
+    };
+    Case {
+        name: "order 13",
+        counts: vec![32; 32],
+        rules: (0..64).map(rule).collect(),
+        turns: (0..64).collect(),
+        rounds: 400,
+    }
+}
+
+/// Rules of three calls. Eight full plans keep some slots open whatever happens; the other rows are arbitrary, and most of their slots are struck. With 24 rules
+/// each of them strikes something of its own; with 64 nearly every slot is struck by several, so that a lift touches many and reopens few.
+fn dense(name: &'static str, number_of_rules: usize, rounds: usize) -> Case {
+    let mut state: u64 = 13;
+    let mut below = |n: usize| {
+        state = state.wrapping_mul(6364136223846793005).wrapping_add(1442695040888963407);
+        (state >> 33) as usize % n
+    };
+    let plans: Vec<Vec<usize>> = (0..8).map(|_| (0..32).map(|_| below(32)).collect()).collect();
+    let mut rules = vec![];
+    for r in 0..number_of_rules {
+        let calls = [r % 32, (r + 1 + r / 32) % 32, (r + 5 + 2 * (r / 32)) % 32];
+        let of_plan = |plan: &Vec<usize>| calls.iter().map(|call| plan[*call]).collect();
+        let mut rows: Vec<Vec<usize>> = plans.iter().map(of_plan).collect();
+        rows.extend((8..64).map(|_| vec![below(32), below(32), below(32)]));
+        rules.push(Rule::new(r, &calls, rows));
+    }
+    Case { name, counts: vec![32; 32], turns: (0..rules.len()).collect(), rules, rounds }
+}
+
+/// Equal slots from call to call, and one rule at the end of the chain that leaves a single slot: putting it strikes 992 slots, and lifting it reopens them.
+fn chain() -> Case {
+    let link = |c: usize| Rule::new(c, &[c, c + 1], (0..32).map(|s| vec![s, s]).collect());
+    let mut rules: Vec<Rule> = (0..31).map(link).collect();
+    rules.push(Rule::new(63, &[0], vec![vec![0]]));
+    Case { name: "long chain", counts: vec![32; 32], rules, turns: vec![31], rounds: 2000 }
+}
+
+/// Six calls of eight slots: each goes before the next, two have slots of their own, and three lie apart from each other.
+fn everyday() -> Case {
+    let pairs = |holds: fn(usize, usize) -> bool| {
+        let all = (0..8).flat_map(|a| (0..8).map(move |b| (a, b)));
+        all.filter(|(a, b)| holds(*a, *b)).map(|(a, b)| vec![a, b]).collect::<Vec<_>>()
+    };
+    let mut rules: Vec<Rule> = (0..5).map(|c| Rule::new(c, &[c, c + 1], pairs(|a, b| a < b))).collect();
+    rules.push(Rule::new(5, &[0], vec![vec![0], vec![1]]));
+    rules.push(Rule::new(6, &[3], vec![vec![3], vec![5]]));
+    let apart = (0..8).flat_map(|a| [vec![a, (a + 2) % 8, (a + 4) % 8], vec![a, (a + 3) % 8, (a + 5) % 8]]);
+    rules.push(Rule::new(7, &[1, 3, 5], apart.collect()));
+    Case { name: "everyday", counts: vec![8; 6], turns: (0..rules.len()).collect(), rules, rounds: 2000 }
+}
+
+/// Nanoseconds that reading the clock takes by itself.
+fn clock_cost() -> u64 {
+    let mut times = vec![];
+    (0..10001).for_each(|_| timed(&mut times, || ()));
+    median(&times)
+}
+
+/// Nanoseconds of each timed command: by kind, and for each turn of a round those of all rounds.
+struct Times {
+    lifts: Vec<Vec<u64>>,
+    puts: Vec<Vec<u64>>,
+}
+
+impl Times {
+    fn of(case: &Case) -> Self {
+        let none = vec![vec![]; case.turns.len()];
+        Times { lifts: none.clone(), puts: none }
+    }
+}
+
+fn median(times: &[u64]) -> u64 {
+    let mut times = times.to_vec();
+    times.sort();
+    times[times.len() / 2]
+}
+
+/// The mean over the turns of each one's median, less what reading the clock takes.
+fn mean(turns: &[Vec<u64>], clock: u64) -> f64 {
+    let sum: u64 = turns.iter().map(|times| median(times)).sum();
+    sum as f64 / turns.len() as f64 - clock as f64
+}
+
+/// The open slots after each lift and put of one round.
+type Shown = Vec<[u32; 32]>;
+
+/// A side of the benchmark.
+trait Side {
+    fn start(case: &Case) -> Self;
+    /// Gets ready to put the rule; not timed.
+    fn prepare(&mut self, rule: &Rule);
+    fn put(&mut self);
+    fn lift(&mut self, number: u8);
+    fn shown(&self) -> [u32; 32];
+}
+
+/// Slots struck by puts, and reopened and touched by lifts, of one round.
+#[derive(Clone, Copy, Default)]
+struct Changes {
+    struck: usize,
+    reopened: usize,
+    touched: usize,
+}
+
+struct Ours {
+    board: berth::Board,
+    changes: Changes,
+}
+
+impl Side for Ours {
+    fn start(case: &Case) -> Self {
+        let mut board = berth::Board::new();
+        board.start(&case.counts).unwrap();
+        let changes = Changes::default();
+        Ours { board, changes }
+    }
+
+    fn prepare(&mut self, rule: &Rule) {
+        self.board.head(rule.number, &rule.calls).unwrap();
+        for row in &rule.rows {
+            self.board.command(&[3, row[0], row[1], row[2], row[3]]).unwrap();
+        }
+    }
+
+    // a function of its own, so that a profile can tell its work from that of heads and rows
+    #[inline(never)]
+    fn put(&mut self) {
+        let report = self.board.put().unwrap();
+        self.changes.struck += report.struck;
+    }
+
+    #[inline(never)]
+    fn lift(&mut self, number: u8) {
+        let report = self.board.lift(number).unwrap();
+        self.changes.reopened += report.reopened;
+        self.changes.touched += report.touched;
+    }
+
+    fn shown(&self) -> [u32; 32] {
+        std::array::from_fn(|call| self.board.open_slots(call as u8).map_or(0, |open| open.mask))
+    }
+}
+
+/// The board that filters afresh, of the crate of this name.
+macro_rules! afresh_side {
+    ($side:ident, $library:ident) => {
+        struct $side {
+            board: $library::Board,
+            draft: Option<(usize, $library::Rule)>,
+        }
+
+        impl Side for $side {
+            fn start(case: &Case) -> Self {
+                let board = $library::Board::new(&case.counts);
+                $side { board, draft: None }
+            }
+
+            fn prepare(&mut self, rule: &Rule) {
+                let draft = $library::Rule::new(&rule.calls, &rule.rows);
+                self.draft = Some((rule.number as usize, draft));
+            }
+
+            fn put(&mut self) {
+                let (number, rule) = self.draft.take().unwrap();
+                self.board.put(number, rule);
+            }
+
+            fn lift(&mut self, number: u8) {
+                self.board.lift(number as usize);
+            }
+
+            fn shown(&self) -> [u32; 32] {
+                *self.board.open()
+            }
+        }
+    };
+}
+
+afresh_side!(Afresh, afresh);
+afresh_side!(AfreshNative, afresh_native);
+
+fn timed(times: &mut Vec<u64>, work: impl FnOnce()) {
+    let start = Instant::now();
+    work();
+    times.push(start.elapsed().as_nanos() as u64);
+}
+
+/// One round: each rule of the turns is lifted and put again.
+fn round<S: Side>(side: &mut S, case: &Case, times: &mut Times, mut shown: Option<&mut Shown>) {
+    for (turn, place) in case.turns.iter().enumerate() {
+        let rule = &case.rules[*place];
+        timed(&mut times.lifts[turn], || side.lift(rule.number));
+        if let Some(shown) = &mut shown {
+            shown.push(side.shown());
+        }
+        side.prepare(rule);
+        timed(&mut times.puts[turn], || side.put());
+        if let Some(shown) = &mut shown {
+            shown.push(side.shown());
+        }
+    }
+}
+
+/// The side with every rule in force, and the open slots after each command of a first round, which also warms it up.
+fn ready<S: Side>(case: &Case) -> (S, Shown) {
+    let mut side = S::start(case);
+    let mut shown = vec![];
+    for rule in &case.rules {
+        side.prepare(rule);
+        side.put();
+        shown.push(side.shown());
+    }
+    round(&mut side, case, &mut Times::of(case), Some(&mut shown));
+    (side, shown)
+}
+
+fn measure(case: &Case, clock: u64) {
+    let (mut ours, ours_shown) = ready::<Ours>(case);
+    let (mut afresh, afresh_shown) = ready::<Afresh>(case);
+    let (mut native, native_shown) = ready::<AfreshNative>(case);
+    assert!(ours_shown == afresh_shown && ours_shown == native_shown, "{}: other open slots", case.name);
+    ours.changes = Changes::default();
+    let mut times = [Times::of(case), Times::of(case), Times::of(case)];
+    for _ in 0..case.rounds {
+        round(&mut ours, case, &mut times[0], None);
+        round(&mut afresh, case, &mut times[1], None);
+        round(&mut native, case, &mut times[2], None);
+    }
+    let last = (ours.shown(), afresh.shown(), native.shown());
+    assert!(last.0 == last.1 && last.0 == last.2, "{}: other open slots at the end", case.name);
+    let commands = (case.turns.len() * case.rounds) as f64;
+    let each = |n: usize| n as f64 / commands;
+    let changes = ours.changes;
+    let (struck, reopened, touched) = (each(changes.struck), each(changes.reopened), each(changes.touched));
+    line(case.name, "put", format!("{:.1} struck", struck), times.each_ref().map(|t| mean(&t.puts, clock)));
+    let lifted = format!("{:.1} reopened of {:.1} touched", reopened, touched);
+    line(case.name, "lift", lifted, times.each_ref().map(|t| mean(&t.lifts, clock)));
+    let both = times.each_ref().map(|t| (mean(&t.puts, clock) + mean(&t.lifts, clock)) / 2.0);
+    line(case.name, "both", String::new(), both);
+}
+
+fn line(name: &str, command: &str, changes: String, [ours, afresh, native]: [f64; 3]) {
+    println!(
+        "| {:10} | {:4} | {:31} | {:9.0} | {:9.0} | {:5.2} | {:9.0} | {:5.2} |",
+        name,
+        command,
+        changes,
+        ours,
+        afresh,
+        afresh / ours,
+        native,
+        native / ours
+    );
+}
+
+fn main() {
+    let only = std::env::args().nth(1);
+    let clock = clock_cost();
+    println!("Nanoseconds per command, the mean over the turns of a round of each one's median; reading the clock, {} ns, is taken off.\nA ratio above 1: the library is faster.\n", clock);
+    println!(
+        "| {:10} | {:4} | {:31} | {:>9} | {:>9} | {:5} | {:>9} | {:5} |",
+        "board", "kind", "slots, per command", "library", "afresh", "ratio", "native", "ratio"
+    );
+    println!(
+        "|------------|------|---------------------------------|-----------|-----------|-------|-----------|-------|"
+    );
+    for case in [busiest(), dense("dense", 24, 60), dense("overfull", 64, 20), chain(), everyday()] {
+        if only.as_ref().is_none_or(|name| name == case.name) {
+            measure(&case, clock);
+        }
+    }
+}

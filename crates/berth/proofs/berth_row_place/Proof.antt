@@ -1,0 +1,17 @@
+-- The place goes by the number of bytes that the question hands back.
+use borrow.Author.Needs.{needs}
+use Rattle.berth.specs.Places.{place-replied}
+use Rattle.berth.proofs.berth_row_place.Statement.{statement}
+use Rattle.berth.proofs.berth_row_place.Tie as tie
+
+row-bytes-requires : tie.Need-row-bytes-requires
+row-bytes-requires c κs = search needs
+
+of-row-bytes-requires : tie.Need-of-row-bytes-requires
+of-row-bytes-requires c κs = search needs
+
+returns : tie.Need-returns
+returns c = rw (c .of-row-bytes .ensures) (place-replied _ _ _ _ (c .before .row-bytes .ensures))
+
+pub berth-row-place-spec : {M : Type 1} → statement M
+berth-row-place-spec = tie.close (tie.spec row-bytes-requires of-row-bytes-requires returns)

@@ -1,0 +1,3 @@
+-- What a host is told: specs of the crate berth.
+pub mod Replies
+pub mod Places

@@ -1,0 +1,115 @@
+// The board for hosts in C and Rust: the command entry and the five questions under their C names. The value beside the buffers is a plain C struct that
+// goes in and comes back by value; hosts/berth.h says the same for C.
+// Proved: each reply hands on an answer that keeps its promise of the model's specs, on any value and any buffers. Assumed: nothing here; of a host, that a
+// lent pointer reaches as far as its length says, and that no two lent buffers overlap.
+pub mod reply; // the answers as C structs
+
+use crate::reply::CommandReply;
+use crate::reply::PlaceReply;
+use crate::reply::RowReply;
+use crate::reply::SlotsReply;
+use crate::reply::StateReply;
+use crate::reply::SupportReply;
+use model::value::Value;
+ghost use mathlib.Core.Path.{_≡_};
+ghost use Rattle.model.specs.Representation.{freshValue, stateOf};
+ghost use Rattle.model.specs.Questions.{SlotsPromise, StatePromise, RowPromise, SupportPromise};
+ghost use Rattle.berth.specs.Replies.{Replied, CommandPromise, commandReply, PlaceReplied, slotsReply, stateReply, rowReply, supportReply};
+
+// The value beside the buffers before the first command.
+#[no_mangle]
+pub extern "C" fn berth_fresh() -> Value
+    ensures { λ r. ⌜ r ≡ freshValue ⌝ }
+{
+    Value::fresh()
+}
+
+// A command. The host keeps the reply's value for the next one.
+#[no_mangle]
+pub extern "C" fn berth_command(
+    value: Value,
+    bytes: &[u8],
+    rows: &mut [u8],
+    killers: &mut [u8],
+    slots: &mut [u8],
+) -> CommandReply
+    ensures { λ r. ⌜ Replied (CommandPromise (stateOf value (now (rows .entry)) (now (killers .entry)) (now (slots .entry))) (now (bytes .entry)) (now (rows .exit)) (now (killers .exit)) (now (slots .exit))) commandReply r ⌝ }
+{
+    reply::of_outcome(board::command(value, bytes, rows, killers, slots))
+}
+
+// The mask of a call's open slots, with the number of its ones.
+#[no_mangle]
+pub extern "C" fn berth_open_slots(
+    value: Value,
+    rows: &[u8],
+    killers: &[u8],
+    slots: &[u8],
+    call: u8,
+) -> SlotsReply
+    ensures { λ r. ⌜ Replied (SlotsPromise (stateOf value (now (rows .entry)) (now (killers .entry)) (now (slots .entry))) call) slotsReply r ⌝ }
+{
+    reply::of_open_slots(questions::open_slots(value, rows, killers, slots, call))
+}
+
+// Open, or struck with its cause.
+#[no_mangle]
+pub extern "C" fn berth_slot_state(
+    value: Value,
+    rows: &[u8],
+    killers: &[u8],
+    slots: &[u8],
+    call: u8,
+    slot: u8,
+) -> StateReply
+    ensures { λ r. ⌜ Replied (StatePromise (stateOf value (now (rows .entry)) (now (killers .entry)) (now (slots .entry))) call slot) stateReply r ⌝ }
+{
+    reply::of_slot_state(questions::slot_state(value, rows, killers, slots, call, slot))
+}
+
+// Alive, or its killer's column.
+#[no_mangle]
+pub extern "C" fn berth_row_state(
+    value: Value,
+    rows: &[u8],
+    killers: &[u8],
+    slots: &[u8],
+    rule: u8,
+    row: u8,
+) -> RowReply
+    ensures { λ r. ⌜ Replied (RowPromise (stateOf value (now (rows .entry)) (now (killers .entry)) (now (slots .entry))) rule row) rowReply r ⌝ }
+{
+    reply::of_row_state(questions::row_state(value, rows, killers, slots, rule, row))
+}
+
+// Where the row's four bytes stand in the lent row buffer: no byte of it where `berth_row_state` refuses.
+#[no_mangle]
+pub extern "C" fn berth_row_place(
+    value: Value,
+    rows: &[u8],
+    killers: &[u8],
+    slots: &[u8],
+    rule: u8,
+    row: u8,
+) -> PlaceReply
+    ensures { λ r. ⌜ PlaceReplied (stateOf value (now (rows .entry)) (now (killers .entry)) (now (slots .entry))) rule row r ⌝ }
+{
+    let part = questions::row_bytes(value, rows, killers, slots, rule, row);
+    reply::of_row_bytes(part.len(), rule, row)
+}
+
+// The lowest living row that holds the slot in the rule's column, or none.
+#[no_mangle]
+pub extern "C" fn berth_support(
+    value: Value,
+    rows: &[u8],
+    killers: &[u8],
+    slots: &[u8],
+    rule: u8,
+    column: u8,
+    slot: u8,
+) -> SupportReply
+    ensures { λ r. ⌜ Replied (SupportPromise (stateOf value (now (rows .entry)) (now (killers .entry)) (now (slots .entry))) rule column slot) supportReply r ⌝ }
+{
+    reply::of_support(questions::support(value, rows, killers, slots, rule, column, slot))
+}

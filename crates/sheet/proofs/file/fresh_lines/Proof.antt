@@ -1,0 +1,86 @@
+-- The loop keeps what `Reached` says: what is written and what is left to be written are all of the lines. A turn reads on, so the measure falls.
+use mathlib.Core.Path.{refl}
+use Prim.Native.Nat.{_-_}
+use native.Mathlib.Omega.{arith}
+use lib.ListN.{length}
+use borrow.Author.Needs.{needs}
+use Rattle.model.specs.Representation.{stateOf}
+use Rattle.sheet.specs.File.{Reached}
+use Rattle.sheet.specs.Laws.File.{reached-start, reached-held, reads-on, reached-turn, turn-room, board-room, reached-end}
+use Rattle.sheet.proofs.file.fresh_lines.Statement.{statement}
+use Rattle.sheet.proofs.file.fresh_lines.Tie as tie
+
+abbrev Inv-loop : tie.InvT-loop
+Inv-loop input out₀ rows₀ killers₀ slots₀ progress₀ out rows killers slots progress = Reached input progress (stateOf (progress .value) rows killers slots) out₀ out
+
+abbrev μ-loop : tie.MeasureT-loop
+μ-loop input out₀ rows₀ killers₀ slots₀ progress₀ out rows killers slots progress = length input - progress .read
+
+loop-holds : tie.Need-loop-holds Inv-loop μ-loop
+loop-holds c = reached-start _ _ _ _ refl refl (c .before .before .before .before .before .pre .1)
+
+turn-requires : tie.Need-turn-requires Inv-loop μ-loop
+turn-requires c κs =
+    let test = c .before .before .before .before in
+    let loop = test .before .before in
+    let start = loop .before .before .before .before .before .before in
+    (reached-held (loop .loop .inv), turn-room _ _ _ _ _ (loop .loop .inv) (start .pre .0) (test .if1 .taken))
+
+loop-less : tie.Need-loop-less Inv-loop μ-loop
+loop-less c =
+    let done = c .before .before .before .before .before .before .before .before in
+    let test = done .before .before .before .before .before in
+    let loop = test .before .before in
+    omega (arith, test .if1 .taken, reads-on _ _ _ _ _ _ _ _ (loop .loop .inv) (test .if1 .taken) (done .turn .ensures))
+
+loop-again : tie.Need-loop-again Inv-loop μ-loop
+loop-again c =
+    let done = c .before .before .before .before .before .before .before .before in
+    let test = done .before .before .before .before .before in
+    let loop = test .before .before in
+    reached-turn _ _ _ _ _ _ _ _ (loop .loop .inv) (test .if1 .taken) (done .turn .ensures)
+
+board-lines-requires : tie.Need-board-lines-requires Inv-loop μ-loop
+board-lines-requires c κs =
+    let test = c .before .before .before .before .before .before in
+    let loop = test .before .before in
+    let start = loop .before .before .before .before .before .before in
+    let stored = loop .loop .inv .represents .stored in
+    (board-room _ _ _ _ _ (loop .loop .inv) (start .pre .0), (stored .headed .counts-size, stored .slots-size))
+
+same-length : tie.Need-same-length Inv-loop μ-loop
+same-length c = search needs
+
+same-length-2 : tie.Need-same-length-2 Inv-loop μ-loop
+same-length-2 c = search needs
+
+same-length-3 : tie.Need-same-length-3 Inv-loop μ-loop
+same-length-3 c = search needs
+
+same-length-4 : tie.Need-same-length-4 Inv-loop μ-loop
+same-length-4 c = search needs
+
+returns : tie.Need-returns Inv-loop μ-loop
+returns c =
+    let line = c .before .before in
+    let test = line .before .before .before .before .before .before .before in
+    let loop = test .before .before in
+    let start = loop .before .before .before .before .before .before in
+    reached-end _ _ _ _ _ (loop .loop .inv) (start .pre .0) (test .if1 .left) _ _ (line .board-lines .ensures)
+
+pub fresh-lines-spec : {M : Type 1} → statement M
+fresh-lines-spec =
+    tie.close
+    (tie.spec
+    Inv-loop
+    μ-loop
+    loop-holds
+    turn-requires
+    loop-less
+    loop-again
+    board-lines-requires
+    same-length
+    same-length-2
+    same-length-3
+    same-length-4
+    returns)

@@ -1,0 +1,5 @@
+pub mod Line
+pub mod Answers
+pub mod Turn
+pub mod File
+pub mod Whole

@@ -1,0 +1,5 @@
+pub mod Promise
+pub mod Line
+pub mod Turn
+pub mod File
+pub mod Laws

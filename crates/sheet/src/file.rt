@@ -1,0 +1,61 @@
+// The lines of an input that is not too long: those of its commands, one after another, and then those of the board.
+use crate::turn::Progress;
+use model::value::KILLERS;
+use model::value::ROWS;
+use model::value::SLOTS;
+use model::value::Value;
+ghost use mathlib.Core.Path.{_≡_};
+ghost use lib.ListN.{length};
+ghost use Rattle.model.specs.Ledger.{fresh};
+ghost use Rattle.model.specs.Representation.{stateOf, Represents};
+ghost use Rattle.lines.specs.Append.{Appended, Room};
+ghost use Rattle.sheet.specs.File.{fileLines, countedLines, Fits, Lined};
+
+// The lines of the board, whose calls have these counts: at most 32 lines of 91 bytes.
+fn board_lines(out: &mut [u8], place: usize, counts: &[u8; 32], slots: &[u8]) -> usize
+    requires { ⌜ Room place 2912 (now out) ⌝ }
+    requires { ⌜ length (now counts) ≡ 32 ⌝ }
+    requires { ⌜ length (now slots) ≡ 1024 ⌝ }
+    ensures { λ r. ⌜ Appended (countedLines (now (counts .entry)) (now (slots .entry))) place (now (out .entry)) (now (out .exit)) r ⌝ }
+{
+    let n = lines::call_count(counts);
+    lines::call_lines(out, place, slots, n)
+}
+
+// On a value and buffers that are fresh.
+fn fresh_lines(
+    value: Value,
+    input: &[u8],
+    out: &mut [u8],
+    rows: &mut [u8],
+    killers: &mut [u8],
+    slots: &mut [u8],
+) -> usize
+    requires { ⌜ Fits (now input) (now out) ⌝ }
+    requires { ⌜ Represents fresh (stateOf value (now rows) (now killers) (now slots)) ⌝ }
+    ensures { λ r. ⌜ Lined (fileLines (now (input .entry))) (now (out .entry)) (now (out .exit)) r ⌝ }
+{
+    let mut progress = Progress {
+        value,
+        read: 0,
+        written: 0,
+    };
+    while progress.read < input.len() {
+        progress = crate::turn::turn(progress, input, out, rows, killers, slots);
+    }
+    let end = progress.value;
+    let heads = end.heads;
+    let counts = heads.counts;
+    board_lines(out, progress.written, &counts, slots)
+}
+
+pub fn file_lines(input: &[u8], out: &mut [u8]) -> usize
+    requires { ⌜ Fits (now input) (now out) ⌝ }
+    ensures { λ r. ⌜ Lined (fileLines (now (input .entry))) (now (out .entry)) (now (out .exit)) r ⌝ }
+{
+    let mut rows = [255u8; ROWS];
+    let mut killers = [255u8; KILLERS];
+    let mut slots = [254u8; SLOTS];
+    let value = Value::fresh();
+    fresh_lines(value, input, out, &mut rows, &mut killers, &mut slots)
+}

@@ -1,0 +1,367 @@
+//! The berth board for a host in Rust: one file, and the static library libberth.a. `Board` owns the value beside the buffers and the three buffers, and only
+//! commands change them; what a board is, and what the bytes of a command are, is said in berth.h.
+//!
+//! The functions of the module `lent` work on memory that the caller lends, of any length and with any contents: the library is proved to return and to stay
+//! inside it, so they are safe. `Board` hands its own memory to them.
+#![allow(dead_code)]
+
+use std::fmt;
+
+pub const ROWS: usize = 16384;
+pub const KILLERS: usize = 4096;
+pub const SLOTS: usize = 1024;
+
+/// The calls and the heads of the rules in force.
+#[repr(C)]
+#[derive(Clone, Copy, Debug, PartialEq, Eq)]
+pub struct Heads {
+    /// slots of each call; 0 after the last call
+    pub counts: [u8; 32],
+    /// columns of each rule; 0 where the number is not in force
+    pub arity: [u8; 64],
+    /// calls of rule r from 4 * r on; 255 past its columns
+    pub calls: [u8; 256],
+    /// rows of each rule
+    pub lengths: [u8; 64],
+}
+
+/// The rule that is being written. An arity of 0 means that there is none.
+#[repr(C)]
+#[derive(Clone, Copy, Debug, PartialEq, Eq)]
+pub struct Draft {
+    pub number: u8,
+    pub arity: u8,
+    /// 255 past its columns
+    pub calls: [u8; 4],
+    /// number of rows
+    pub length: u8,
+    /// row w from 4 * w on; 255 past its columns and rows
+    pub rows: [u8; 256],
+}
+
+/// The value beside the buffers.
+#[repr(C)]
+#[derive(Clone, Copy, Debug, PartialEq, Eq)]
+pub struct Value {
+    pub heads: Heads,
+    pub draft: Draft,
+}
+
+/// Why a command or a question was refused: a number of the scope document's table.
+#[derive(Clone, Copy, Debug, PartialEq, Eq)]
+pub struct Refusal {
+    pub number: u8,
+}
+
+impl fmt::Display for Refusal {
+    fn fmt(&self, f: &mut fmt::Formatter) -> fmt::Result {
+        let condition = match self.number {
+            1 => "a buffer is not of its length",
+            3 => "the kind is not 1 to 5, or there is no byte at all",
+            4 => "the body is cut short, or bytes are left over behind it",
+            5 => "the first count is 0, a count is over 32, or one is not 0 after a 0",
+            6 => "there is no board",
+            7 => "a rule's number is over 63",
+            8 => "the arity is not 1 to 4",
+            9 => "a call of the head is not on the board",
+            10 => "a call stands twice in the head",
+            11 => "a field past the arity is not 255",
+            12 => "there is no draft",
+            13 => "the draft has 64 rows",
+            14 => "a slot of the row is not on its call",
+            15 => "the row is in the draft already",
+            16 => "the draft's number is in force already",
+            17 => "the number is not in force",
+            18 => "there is no such call",
+            19 => "there is no such slot of the call",
+            20 => "the row's number is not below the rule's row count",
+            21 => "the column is not below the rule's arity",
+            _ => "no condition of the table",
+        };
+        write!(f, "refused {}: {}", self.number, condition)
+    }
+}
+
+impl std::error::Error for Refusal {}
+
+/// What an accepted command changed.
+#[derive(Clone, Copy, Debug, Default, PartialEq, Eq)]
+pub struct Report {
+    /// slots open before and struck after
+    pub struck: usize,
+    /// slots struck before and open after
+    pub reopened: usize,
+    /// of a put the slots struck; of a lift at least those reopened, and at most those struck before
+    pub touched: usize,
+}
+
+/// The open slots of a call: a bit for each, and the number of ones.
+#[derive(Clone, Copy, Debug, PartialEq, Eq)]
+pub struct OpenSlots {
+    pub mask: u32,
+    pub ones: u32,
+}
+
+#[derive(Clone, Copy, Debug, PartialEq, Eq)]
+pub enum Slot {
+    Open,
+    Struck { cause: u8 },
+}
+
+#[derive(Clone, Copy, Debug, PartialEq, Eq)]
+pub enum Row {
+    Alive,
+    Dead { killer: u8 },
+}
+
+pub type Answer<T> = Result<T, Refusal>;
+
+/// The library's functions on lent memory.
+pub mod lent {
+    use super::*;
+
+    #[repr(C)]
+    struct CommandReply {
+        struck: usize,
+        reopened: usize,
+        touched: usize,
+        number: u8,
+        value: Value,
+    }
+
+    #[repr(C)]
+    struct SlotsReply {
+        mask: u32,
+        ones: u32,
+        number: u8,
+    }
+
+    // The replies of two bytes, to the questions on a slot, a row and a support, have one layout.
+    #[repr(C)]
+    struct ByteReply {
+        number: u8,
+        byte: u8,
+    }
+
+    #[repr(C)]
+    struct PlaceReply {
+        place: usize,
+        length: usize,
+    }
+
+    // A slice passes as a pointer and its length.
+    type Lent = *const u8;
+    type LentMut = *mut u8;
+
+    #[rustfmt::skip]
+    extern "C" {
+        fn berth_fresh() -> Value;
+        fn berth_command(value: Value, bytes: Lent, b: usize, rows: LentMut, r: usize, killers: LentMut, k: usize, slots: LentMut, s: usize) -> CommandReply;
+        fn berth_open_slots(value: Value, rows: Lent, r: usize, killers: Lent, k: usize, slots: Lent, s: usize, call: u8) -> SlotsReply;
+        fn berth_slot_state(value: Value, rows: Lent, r: usize, killers: Lent, k: usize, slots: Lent, s: usize, call: u8, slot: u8) -> ByteReply;
+        fn berth_row_state(value: Value, rows: Lent, r: usize, killers: Lent, k: usize, slots: Lent, s: usize, rule: u8, row: u8) -> ByteReply;
+        fn berth_row_place(value: Value, rows: Lent, r: usize, killers: Lent, k: usize, slots: Lent, s: usize, rule: u8, row: u8) -> PlaceReply;
+        fn berth_support(value: Value, rows: Lent, r: usize, killers: Lent, k: usize, slots: Lent, s: usize, rule: u8, column: u8, slot: u8) -> ByteReply;
+    }
+
+    fn answer<T>(number: u8, given: T) -> Answer<T> {
+        if number == 0 {
+            Ok(given)
+        } else {
+            Err(Refusal { number })
+        }
+    }
+
+    /// The value before the first command.
+    pub fn fresh() -> Value {
+        unsafe { berth_fresh() }
+    }
+
+    /// A command. The value becomes the one that it leaves; a refusal leaves it and every byte as they were.
+    pub fn command(
+        value: &mut Value,
+        bytes: &[u8],
+        rows: &mut [u8],
+        killers: &mut [u8],
+        slots: &mut [u8],
+    ) -> Answer<Report> {
+        let reply = unsafe {
+            berth_command(
+                *value,
+                bytes.as_ptr(),
+                bytes.len(),
+                rows.as_mut_ptr(),
+                rows.len(),
+                killers.as_mut_ptr(),
+                killers.len(),
+                slots.as_mut_ptr(),
+                slots.len(),
+            )
+        };
+        *value = reply.value;
+        let report = Report { struck: reply.struck, reopened: reply.reopened, touched: reply.touched };
+        answer(reply.number, report)
+    }
+
+    /// What the questions are asked of.
+    #[derive(Clone, Copy)]
+    pub struct Memory<'a> {
+        pub value: &'a Value,
+        pub rows: &'a [u8],
+        pub killers: &'a [u8],
+        pub slots: &'a [u8],
+    }
+
+    // The value and the three slices, as the questions take them, before the question's own numbers.
+    macro_rules! ask {
+        ($question:ident, $memory:expr, $($number:expr),+) => {
+            unsafe {
+                $question(
+                    *$memory.value,
+                    $memory.rows.as_ptr(),
+                    $memory.rows.len(),
+                    $memory.killers.as_ptr(),
+                    $memory.killers.len(),
+                    $memory.slots.as_ptr(),
+                    $memory.slots.len(),
+                    $($number),+
+                )
+            }
+        };
+    }
+
+    impl<'a> Memory<'a> {
+        pub fn open_slots(self, call: u8) -> Answer<OpenSlots> {
+            let reply = ask!(berth_open_slots, self, call);
+            let given = OpenSlots { mask: reply.mask, ones: reply.ones };
+            answer(reply.number, given)
+        }
+
+        pub fn slot_state(self, call: u8, slot: u8) -> Answer<Slot> {
+            let reply = ask!(berth_slot_state, self, call, slot);
+            let given = match reply.byte {
+                255 => Slot::Open,
+                cause => Slot::Struck { cause },
+            };
+            answer(reply.number, given)
+        }
+
+        pub fn row_state(self, rule: u8, row: u8) -> Answer<Row> {
+            let reply = ask!(berth_row_state, self, rule, row);
+            let given = match reply.byte {
+                255 => Row::Alive,
+                killer => Row::Dead { killer },
+            };
+            answer(reply.number, given)
+        }
+
+        /// The row's four bytes, a part of the lent rows; the empty part where `row_state` refuses.
+        pub fn row_bytes(self, rule: u8, row: u8) -> &'a [u8] {
+            let reply = ask!(berth_row_place, self, rule, row);
+            &self.rows[reply.place..reply.place + reply.length]
+        }
+
+        /// The number of a living row with the slot in the rule's column.
+        pub fn support(self, rule: u8, column: u8, slot: u8) -> Answer<Option<u8>> {
+            let reply = ask!(berth_support, self, rule, column, slot);
+            let given = match reply.byte {
+                255 => None,
+                row => Some(row),
+            };
+            answer(reply.number, given)
+        }
+    }
+}
+
+/// A board with its memory.
+#[derive(Clone)]
+pub struct Board {
+    value: Value,
+    rows: Box<[u8]>,
+    killers: Box<[u8]>,
+    slots: Box<[u8]>,
+}
+
+impl Default for Board {
+    fn default() -> Self {
+        Self::new()
+    }
+}
+
+// A command's bytes, filled up to its length. More fields than it has room for make it too long, and the board refuses it.
+fn filled(start: &[u8], fields: &[u8], length: usize, spare: u8) -> Vec<u8> {
+    let mut bytes = [start, fields].concat();
+    bytes.resize(bytes.len().max(length), spare);
+    bytes
+}
+
+impl Board {
+    /// A fresh board, before any command.
+    pub fn new() -> Self {
+        Board {
+            value: lent::fresh(),
+            rows: vec![255; ROWS].into(),
+            killers: vec![255; KILLERS].into(),
+            slots: vec![254; SLOTS].into(),
+        }
+    }
+
+    /// A command by its bytes.
+    pub fn command(&mut self, bytes: &[u8]) -> Answer<Report> {
+        lent::command(&mut self.value, bytes, &mut self.rows, &mut self.killers, &mut self.slots)
+    }
+
+    /// Kind 1: a new board with these slot counts, of at most 32 calls; rules and draft are gone.
+    pub fn start(&mut self, counts: &[u8]) -> Answer<Report> {
+        self.command(&filled(&[1], counts, 33, 0))
+    }
+
+    /// Kind 2: starts a draft, in place of any other.
+    pub fn head(&mut self, number: u8, calls: &[u8]) -> Answer<Report> {
+        let arity = calls.len().min(255) as u8;
+        self.command(&filled(&[2, number, arity], calls, 7, 255))
+    }
+
+    /// Kind 3: adds a row to the draft.
+    pub fn row(&mut self, slots: &[u8]) -> Answer<Report> {
+        self.command(&filled(&[3], slots, 5, 255))
+    }
+
+    /// Kind 4: the draft comes into force, then there is none.
+    pub fn put(&mut self) -> Answer<Report> {
+        self.command(&[4])
+    }
+
+    /// Kind 5: the rule leaves force.
+    pub fn lift(&mut self, number: u8) -> Answer<Report> {
+        self.command(&[5, number])
+    }
+
+    /// The value and the buffers, to look at.
+    pub fn memory(&self) -> lent::Memory<'_> {
+        lent::Memory { value: &self.value, rows: &self.rows, killers: &self.killers, slots: &self.slots }
+    }
+
+    /// The open slots of a call.
+    pub fn open_slots(&self, call: u8) -> Answer<OpenSlots> {
+        self.memory().open_slots(call)
+    }
+
+    pub fn slot_state(&self, call: u8, slot: u8) -> Answer<Slot> {
+        self.memory().slot_state(call, slot)
+    }
+
+    pub fn row_state(&self, rule: u8, row: u8) -> Answer<Row> {
+        self.memory().row_state(rule, row)
+    }
+
+    /// The row's four bytes; the empty part where `row_state` refuses.
+    pub fn row_bytes(&self, rule: u8, row: u8) -> &[u8] {
+        self.memory().row_bytes(rule, row)
+    }
+
+    /// The number of a living row with the slot in the rule's column.
+    pub fn support(&self, rule: u8, column: u8, slot: u8) -> Answer<Option<u8>> {
+        self.memory().support(rule, column, slot)
+    }
+}

@@ -1,0 +1,43 @@
+//! The worked session of the scope document on a board of a Rust host: a line for each command, as the sheet program writes it, and after each put and lift
+//! the open slots of every call.
+mod berth;
+
+use berth::{Answer, Board, Report};
+
+fn print_answer(kind: u8, answer: Answer<Report>) {
+    match answer {
+        Ok(report) => println!("a {} {} {}", kind, report.struck, report.reopened),
+        Err(refusal) => println!("r {} {}", kind, refusal.number),
+    }
+}
+
+fn print_slots(board: &Board) {
+    for call in 0..32 {
+        let Ok(open) = board.open_slots(call) else {
+            return;
+        };
+        print!("c {}", call);
+        for slot in (0..32).filter(|slot| open.mask >> slot & 1 == 1) {
+            print!(" {}", slot);
+        }
+        println!();
+    }
+}
+
+fn main() {
+    let mut board = Board::new();
+    print_answer(1, board.start(&[2, 2]));
+    print_answer(2, board.head(0, &[0, 1]));
+    print_answer(3, board.row(&[0, 0]));
+    print_answer(3, board.row(&[1, 1]));
+    print_answer(4, board.put());
+    print_slots(&board);
+    print_answer(2, board.head(5, &[0]));
+    print_answer(3, board.row(&[0]));
+    print_answer(4, board.put());
+    print_slots(&board);
+    print_answer(5, board.lift(5));
+    print_slots(&board);
+    print_answer(5, board.lift(5));
+    println!("end");
+}
