@@ -43,6 +43,11 @@ pub const RING: u8 = 11;
 // What a sample says.
 pub const SAMPLE: u8 = 12;
 
+// The difference, unless something holds.
+pub fn unless(holds: bool, difference: u8) -> u8 {
+    if holds { 0 } else { difference }
+}
+
 // An answer as numbers: the refusal, 0 for accepted, and S, R and T.
 pub struct Reply {
     pub refusal: u8,
@@ -103,11 +108,7 @@ fn report_difference(reply: Reply, kind: u8, before: Masks, after: Masks, struck
     if reply.reopened != crate::masks::lost(after, from) {
         return REOPENED;
     }
-    if touched_holds(reply, kind, struck) {
-        0
-    } else {
-        TOUCHED
-    }
+    unless(touched_holds(reply, kind, struck), TOUCHED)
 }
 
 // The answer to a command for which this refusal was due.
@@ -181,19 +182,16 @@ pub fn record_difference(
     let counts = ledger.counts;
     let rules = ledger.rules;
     let all = crate::masks::all(counts);
-    if !crate::records::slots_hold(all, open, slots) {
-        return OPEN;
-    }
-    if !crate::records::causes_hold(rules, slots) {
-        return CAUSE;
+    let n = crate::records::slots_difference(all, open, rules, slots);
+    if n != 0 {
+        return n;
     }
     if !crate::records::killers_hold(rules, open, table, killers) {
         return KILLER;
     }
     let struck = crate::masks::lost(all, open);
-    if crate::records::no_ring(struck, rules, table, killers, slots) {
-        0
-    } else {
-        RING
-    }
+    unless(
+        crate::records::no_ring(struck, rules, table, killers, slots),
+        RING,
+    )
 }

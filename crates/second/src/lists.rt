@@ -27,71 +27,22 @@ pub struct Progress {
 
 // Up to 4 calls of 4 slots and 8 rules, with many lifts.
 fn small(random: Random) -> Size {
-    let b = random.next();
-    let c = b.next();
-    let d = c.next();
-    Size {
-        calls: 1 + random.below(4) % 4,
-        slots: 1 + b.below(4) % 4,
-        numbers: 1 + c.below(8) % 8,
-        rows: 1 + d.below(16) % 16,
-        lifts: 32,
-        gaps: 24,
-        wild: 16,
-        full: false,
-        commands: 80,
-    }
+    Size::up_to(random, 4, 4, 8, 16).with(32, 24, 16, 80)
 }
 
 // Up to 12 calls of 12 slots and 24 rules.
 fn middle(random: Random) -> Size {
-    let b = random.next();
-    let c = b.next();
-    let d = c.next();
-    Size {
-        calls: 2 + random.below(11) % 11,
-        slots: 2 + b.below(11) % 11,
-        numbers: 1 + c.below(24) % 24,
-        rows: 1 + d.below(64) % 64,
-        lifts: 24,
-        gaps: 16,
-        wild: 6,
-        full: false,
-        commands: 200,
-    }
+    Size::up_to(random, 12, 12, 24, 64).with(24, 16, 6, 200)
 }
 
-// Any size.
+// Up to 32 calls of 32 slots and 64 rules.
 fn large(random: Random) -> Size {
-    let b = random.next();
-    let c = b.next();
-    let d = c.next();
-    Size {
-        calls: 1 + random.below(32) % 32,
-        slots: 1 + b.below(32) % 32,
-        numbers: 1 + c.below(64) % 64,
-        rows: 1 + d.below(64) % 64,
-        lifts: 24,
-        gaps: 12,
-        wild: 2,
-        full: false,
-        commands: 700,
-    }
+    Size::up_to(random, 32, 32, 64, 64).with(24, 12, 2, 700)
 }
 
 // 32 calls of 32 slots, 64 rules of 64 rows.
 fn full() -> Size {
-    Size {
-        calls: 32,
-        slots: 32,
-        numbers: 64,
-        rows: 64,
-        lifts: 8,
-        gaps: 8,
-        wild: 1,
-        full: true,
-        commands: MOST,
-    }
+    Size::whole().with(8, 8, 1, MOST)
 }
 
 // The size of a random list: of forty, 24 are small, 12 in the middle, 3 large and 1 is full.

@@ -1,5 +1,8 @@
 // The recorded causes and killers, held by themselves to document 01: a cause is in force on its call, a killer is a struck slot of its row, and there is no ring.
-// Each function answers whether that holds, of lent bytes and of this program's own ledger and open slots.
+// Nothing else in this program goes by what they say.
+use crate::compare::CAUSE;
+use crate::compare::OPEN;
+use crate::compare::unless;
 use crate::filter::ColumnMasks;
 use crate::filter::alive;
 use crate::ledger::Rule;
@@ -22,41 +25,31 @@ fn on_call(rule: Rule, call: usize) -> bool {
     a | b | c | d
 }
 
-// The byte of a struck slot is the number of a rule in force on its call.
-fn cause_holds(rules: Rules, call: usize, cause: u8) -> bool {
-    (cause < 64) & on_call(rules.rule(cause as usize), call)
+// What differs in slot byte i: it is to be 254 off the board, 255 where the slot is open, and else the number of a rule in force on the call.
+fn slot_difference(all: Masks, open: Masks, rules: Rules, i: usize, byte: u8) -> u8 {
+    let call = i / 32;
+    let slot = i % 32;
+    if !all.has(call, slot) {
+        return unless(byte == 254, OPEN);
+    }
+    if open.has(call, slot) {
+        return unless(byte == 255, OPEN);
+    }
+    if 63 < byte {
+        return OPEN;
+    }
+    unless(on_call(rules.rule(byte as usize), call), CAUSE)
 }
 
-// Slot byte i is 254 off the board, 255 where the slot is open, and else below 64.
-fn slot_holds(all: Masks, open: Masks, i: usize, byte: u8) -> bool {
-    if !all.has(i / 32, i % 32) {
-        return byte == 254;
-    }
-    if open.has(i / 32, i % 32) {
-        return byte == 255;
-    }
-    byte < 64
-}
-
-// Every slot byte says open, struck or off the board as it is due.
-pub fn slots_hold(all: Masks, open: Masks, slots: &[u8]) -> bool {
+// The same for every slot byte: the first that differs.
+pub fn slots_difference(all: Masks, open: Masks, rules: Rules, slots: &[u8]) -> u8 {
     for i in 0..1024 {
-        if !slot_holds(all, open, i, crate::bytes::byte(slots, i)) {
-            return false;
+        let n = slot_difference(all, open, rules, i, crate::bytes::byte(slots, i));
+        if n != 0 {
+            return n;
         }
     }
-    true
-}
-
-// Every struck slot has a cause in force on its call.
-pub fn causes_hold(rules: Rules, slots: &[u8]) -> bool {
-    for i in 0..1024 {
-        let cause = crate::bytes::byte(slots, i);
-        if cause < 254 && !cause_holds(rules, i / 32, cause) {
-            return false;
-        }
-    }
-    true
+    0
 }
 
 // Whether the slot in column k of the row is struck.

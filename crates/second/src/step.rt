@@ -178,11 +178,7 @@ fn record_difference(run: Run, changed: bool, table: &[u32], killers: &[u8], slo
     if changed {
         return crate::compare::record_difference(run.ledger, run.open, table, killers, slots);
     }
-    if unchanged(killers, slots, table) {
-        0
-    } else {
-        crate::compare::WRITTEN
-    }
+    crate::compare::unless(unchanged(killers, slots, table), crate::compare::WRITTEN)
 }
 
 // What differs in the memory.

@@ -25,6 +25,46 @@ pub struct Size {
     pub commands: usize,
 }
 
+impl Size {
+    // At random, at most so many calls, slots, numbers and rows.
+    pub fn up_to(random: Random, calls: usize, slots: usize, numbers: usize, rows: usize) -> Size {
+        let b = random.next();
+        let c = b.next();
+        let d = c.next();
+        let mut size = Size::whole();
+        size.calls = 1 + random.below(calls) % 32;
+        size.slots = 1 + b.below(slots) % 32;
+        size.numbers = 1 + c.below(numbers) % 64;
+        size.rows = 1 + d.below(rows) % 64;
+        size.full = false;
+        size
+    }
+
+    // All 32 calls of 32 slots, 64 numbers and 64 rows.
+    pub fn whole() -> Size {
+        Size {
+            calls: 32,
+            slots: 32,
+            numbers: 64,
+            rows: 64,
+            lifts: 0,
+            gaps: 0,
+            wild: 0,
+            full: true,
+            commands: 0,
+        }
+    }
+
+    // With so many commands, and lifts, gaps and rows at random so often.
+    pub fn with(mut self, lifts: usize, gaps: usize, wild: usize, commands: usize) -> Size {
+        self.lifts = lifts;
+        self.gaps = gaps;
+        self.wild = wild;
+        self.commands = commands;
+        self
+    }
+}
+
 // How the rows of the draft at hand are written: at random, or one or two rows for each slot of the first call.
 pub struct Pattern {
     pub wild: bool,

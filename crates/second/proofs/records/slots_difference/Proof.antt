@@ -1,14 +1,14 @@
 -- The loop counts up to its end.
 use Prim.Native.Nat.{_≤_, _-_}
 use borrow.Author.Needs.{needs}
-use Rattle.second.proofs.records.causes_hold.Statement.{statement}
-use Rattle.second.proofs.records.causes_hold.Tie as tie
+use Rattle.second.proofs.records.slots_difference.Statement.{statement}
+use Rattle.second.proofs.records.slots_difference.Tie as tie
 
 abbrev Inv-loop : tie.InvT-loop
-Inv-loop rules slots i₀ i = i ≤ 1024
+Inv-loop all «open» rules slots i₀ i = i ≤ 1024
 
 abbrev μ-loop : tie.MeasureT-loop
-μ-loop rules slots i₀ i = 1024 - i
+μ-loop all «open» rules slots i₀ i = 1024 - i
 
 loop-holds : tie.Need-loop-holds Inv-loop μ-loop
 loop-holds c = search needs
@@ -16,8 +16,8 @@ loop-holds c = search needs
 byte-requires : tie.Need-byte-requires Inv-loop μ-loop
 byte-requires c κs = search needs
 
-cause-holds-requires : tie.Need-cause-holds-requires Inv-loop μ-loop
-cause-holds-requires c κs = search needs
+slot-difference-requires : tie.Need-slot-difference-requires Inv-loop μ-loop
+slot-difference-requires c κs = search needs
 
 returns : tie.Need-returns Inv-loop μ-loop
 returns c = search needs
@@ -34,15 +34,15 @@ loop-again c = search needs
 returns-2 : tie.Need-returns-2 Inv-loop μ-loop
 returns-2 c = search needs
 
-pub causes-hold-spec : {M : Type 1} → statement M
-causes-hold-spec =
+pub slots-difference-spec : {M : Type 1} → statement M
+slots-difference-spec =
     tie.close
     (tie.spec
     Inv-loop
     μ-loop
     loop-holds
     byte-requires
-    cause-holds-requires
+    slot-difference-requires
     returns
     add-i
     loop-less
