@@ -20,7 +20,7 @@ pub fn obey(
     ensures { λ r. ⌜ Obeys (stateOf value (now (rows .entry)) (now (killers .entry)) (now (slots .entry))) command counts (r .answer) (stateOf (r .value) (now (rows .exit)) (now (killers .exit)) (now (slots .exit))) ⌝ }
 {
     match command {
-        Command::Board => kinds::board::make_board(value, counts, rows, killers, slots),
+        Command::Board => kinds::new_board::make_board(value, counts, rows, killers, slots),
         Command::Head(head) => kinds::head::start_draft(value, head),
         Command::Row(row) => kinds::row::add_row(value, row),
         Command::Put => rules::into_force::put_draft(value, rows, killers, slots),

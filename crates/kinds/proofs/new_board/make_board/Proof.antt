@@ -2,8 +2,8 @@
 use mathlib.Core.Path.{sym, _∙_}
 use Rattle.kinds.specs.Laws.Made.{makes-new, makes-nothing}
 use borrow.Author.Needs.{needs}
-use Rattle.kinds.proofs.board.make_board.Statement.{statement}
-use Rattle.kinds.proofs.board.make_board.Tie as tie
+use Rattle.kinds.proofs.new_board.make_board.Statement.{statement}
+use Rattle.kinds.proofs.new_board.make_board.Tie as tie
 
 bad-counts-requires : tie.Need-bad-counts-requires
 bad-counts-requires c κs = search needs

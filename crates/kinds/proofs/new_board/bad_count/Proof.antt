@@ -1,7 +1,7 @@
 -- The code's tests are the definition's, in its order.
 use borrow.Author.Tests.{lt-ltb, le-ltb}
-use Rattle.kinds.proofs.board.bad_count.Statement.{statement}
-use Rattle.kinds.proofs.board.bad_count.Tie as tie
+use Rattle.kinds.proofs.new_board.bad_count.Statement.{statement}
+use Rattle.kinds.proofs.new_board.bad_count.Tie as tie
 
 returns : tie.Need-returns
 returns c = simp (lt-ltb _ _ (c .if1 .taken))

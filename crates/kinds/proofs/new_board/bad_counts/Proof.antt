@@ -4,8 +4,8 @@ use Prim.Native.Nat.{_≤_, _-_}
 use native.Mathlib.Omega.{arith}
 use Rattle.kinds.specs.Laws.Counts.{GoodSoFar, good-none, good-more, good-all, bad-found}
 use borrow.Author.Needs.{needs}
-use Rattle.kinds.proofs.board.bad_counts.Statement.{statement}
-use Rattle.kinds.proofs.board.bad_counts.Tie as tie
+use Rattle.kinds.proofs.new_board.bad_counts.Statement.{statement}
+use Rattle.kinds.proofs.new_board.bad_counts.Tie as tie
 
 abbrev Inv-loop : tie.InvT-loop
 Inv-loop counts ended₀ j₀ ended j = (j ≤ 32) × GoodSoFar counts j ended

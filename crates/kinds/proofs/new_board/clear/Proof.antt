@@ -1,7 +1,7 @@
 -- The three buffers are written one after another.
 use borrow.Author.Needs.{needs}
-use Rattle.kinds.proofs.board.clear.Statement.{statement}
-use Rattle.kinds.proofs.board.clear.Tie as tie
+use Rattle.kinds.proofs.new_board.clear.Statement.{statement}
+use Rattle.kinds.proofs.new_board.clear.Tie as tie
 
 fill-requires : tie.Need-fill-requires
 fill-requires c κs = search needs

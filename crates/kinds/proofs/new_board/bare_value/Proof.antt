@@ -1,7 +1,7 @@
 -- The fresh heads with other counts, and the empty draft.
 use borrow.Author.Needs.{needs}
-use Rattle.kinds.proofs.board.bare_value.Statement.{statement}
-use Rattle.kinds.proofs.board.bare_value.Tie as tie
+use Rattle.kinds.proofs.new_board.bare_value.Statement.{statement}
+use Rattle.kinds.proofs.new_board.bare_value.Tie as tie
 
 fresh-requires : tie.Need-fresh-requires
 fresh-requires c κs = search needs

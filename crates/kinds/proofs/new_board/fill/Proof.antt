@@ -5,8 +5,8 @@ use native.Mathlib.Omega.{arith}
 use lib.ListN.{length}
 use Rattle.kinds.specs.Fill.{Written, written-none, written-more, written-at}
 use borrow.Author.Needs.{needs}
-use Rattle.kinds.proofs.board.fill.Statement.{statement}
-use Rattle.kinds.proofs.board.fill.Tie as tie
+use Rattle.kinds.proofs.new_board.fill.Statement.{statement}
+use Rattle.kinds.proofs.new_board.fill.Tie as tie
 
 abbrev Inv-loop : tie.InvT-loop
 Inv-loop buffer₀ v i₀ buffer i = (i ≤ length buffer₀) × Written (λ _. v) i buffer₀ buffer

@@ -2,8 +2,8 @@
 use borrow.Author.Needs.{needs}
 use borrow.Author.Tests.{lt-ltb, le-ltb}
 use Rattle.kinds.specs.Made.{slotByte}
-use Rattle.kinds.proofs.board.slot_byte.Statement.{statement}
-use Rattle.kinds.proofs.board.slot_byte.Tie as tie
+use Rattle.kinds.proofs.new_board.slot_byte.Statement.{statement}
+use Rattle.kinds.proofs.new_board.slot_byte.Tie as tie
 
 cast-if1 : tie.Need-cast-if1
 cast-if1 c = search needs

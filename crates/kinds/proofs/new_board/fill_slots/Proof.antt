@@ -6,8 +6,8 @@ use lib.ListN.{length}
 use Rattle.kinds.specs.Fill.{Written, written-none, written-more, written-at}
 use Rattle.kinds.specs.Made.{slotByte}
 use borrow.Author.Needs.{needs}
-use Rattle.kinds.proofs.board.fill_slots.Statement.{statement}
-use Rattle.kinds.proofs.board.fill_slots.Tie as tie
+use Rattle.kinds.proofs.new_board.fill_slots.Statement.{statement}
+use Rattle.kinds.proofs.new_board.fill_slots.Tie as tie
 
 abbrev Inv-loop : tie.InvT-loop
 Inv-loop slots₀ counts place₀ slots place = (place ≤ 1024) × (length slots₀ ≡ 1024) × Written (slotByte counts) place slots₀ slots
