@@ -5,6 +5,7 @@ use mathlib.Core.List.{List}
 use Prim.Native.Nat.{ℕ, zero, suc, _≤_}
 use native.Mathlib.Omega.{arith}
 use lib.ListN.{length}
+use borrow.Author.Tests.{eq-eqb}
 use Rattle.model.specs.declared.answer.Answer.{Answer}
 use Rattle.model.specs.declared.command.Command.{Command}
 use Rattle.model.specs.declared.command.Command.the-variants as kind
@@ -17,6 +18,7 @@ use Rattle.model.specs.Promise.{numberOf, Obeyed, KindPromise, BoardMade, Promi
 use Rattle.model.specs.Laws.Answers.{refused-by}
 use Rattle.model.specs.Laws.Entry.{well-formed, kind-promise}
 use Rattle.kinds.specs.Made.{MakesBoard}
+use Rattle.revise.specs.Bounds.{Sizes}
 
 -- a command that has been read is obeyed: by its kind's promise, and a kind 1 alike on every memory
 pub record Obeys (before : State) (c : Command) (ns : List ℕ) (given : Answer) (after : State) : Type 0 where
@@ -51,6 +53,12 @@ board-obeys {before} {after} {c} {ns} {given} is m =
         go : (k : ℕ) → numberOf given ≡ k → (k ≡ 0 → Represents (effect fresh kind.Board ns) after) → Represents (obey k L (found.Command kind.Board) ns) after
         go zero e made = made refl
         go (suc k) e made = subst (λ (s : State). Represents L s) (sym (m .refused (suc k) (refused-by given k e))) rep
+
+-- buffers of these lengths are not refused
+pub right-lengths : {rows killers slots : List ℕ} → Sizes rows killers slots
+    → badLent (record { rows = length rows; killers = length killers; slots = length slots }) ≡ false
+right-lengths {rows} {killers} {slots} z =
+    rw (eq-eqb (length rows) 16384 (z .rows-size), eq-eqb (length killers) 4096 (z .killers-size), eq-eqb (length slots) 1024 (z .slots-size)) refl
 
 -- THE ENTRY'S PROMISE from a command that was read whole, as d at the first byte, with nothing left over, and obeyed
 pub obeys-promise : {s after : State} {bytes : List ℕ} {c : Command} {given : Answer} (d : Decoded) → badLent (lentOf s) ≡ false → d ≡ readAt bytes 0
