@@ -1,7 +1,7 @@
 // Commands that are damaged on purpose, so that there are refusals of every number. Whether one is refused is for the ledger to say: some are good again.
-use crate::ledger::Draft;
 use crate::random::Random;
-use crate::request::Request;
+use account::ledger::Draft;
+use account::request::Request;
 
 // Another length for a buffer of length n: one byte less or more, or none.
 fn other(random: Random, n: usize) -> usize {

@@ -1,17 +1,8 @@
 // A program that tests the command entry against a second account of the board. The samples of document 01 that are not starred, and random lists of commands, go
-// through the command entry and through a ledger and a from-scratch filter of the program's own, which share no code with it; after every command the two are
+// through the command entry and through the ledger and the from-scratch filter of the crate account, which share no code with it; after every command the two are
 // compared, and the recorded causes and killers are held to document 01 by themselves.
 // Proved: every function is safe and ends. What the program finds is tested: its output is held to the file stdout. Assumed: what io and libc assume.
 mod random; // numbers that look random
-mod word; // four bytes as one word
-mod bytes; // reads and writes of slices
-mod masks; // sets of slots
-mod request; // a command's bytes, and the buffers lent with it
-mod ledger; // what a command does
-mod refusals; // whether it is refused
-mod filter; // the open slots from scratch
-mod records; // causes, killers and rings
-mod compare; // what differs
 mod step; // one command, both ways
 mod samples; // the samples of document 01
 mod writer; // the commands of a random list

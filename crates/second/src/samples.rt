@@ -1,9 +1,9 @@
 // The samples of document 01 that are not starred, numbered from 1: their commands, the refusal that is due for each, and the slots that are open at the end, all
 // written out.
-use crate::masks::Masks;
-use crate::request::Request;
 use crate::step::Run;
-use crate::word::pack;
+use account::masks::Masks;
+use account::request::Request;
+use account::word::pack;
 
 // The rules of the AC-3 example of document 003, pair by pair, with the values that stand there. On the board each is less by one. First that on x2 and x3.
 const R23: [u8; 20] = [2, 2, 4, 5, 2, 5, 3, 5, 2, 3, 5, 1, 1, 2, 5, 3, 2, 1, 1, 1];
@@ -134,7 +134,7 @@ fn agrees(run: Run, sample: usize, i: usize) -> bool {
     if reply.refusal != command(sample, i).refusal {
         return false;
     }
-    (i % 64 + 1 < length(sample)) | crate::masks::same(run.open, open_slots(sample))
+    (i % 64 + 1 < length(sample)) | account::masks::same(run.open, open_slots(sample))
 }
 
 // The run of a sample held to what is written here; any other run as it is.
@@ -142,5 +142,5 @@ pub fn held(run: Run, sample: usize, i: usize) -> Run {
     if sample == 0 || run.difference != 0 || agrees(run, sample, i) {
         return run;
     }
-    run.with_difference(crate::compare::SAMPLE)
+    run.with_difference(account::compare::SAMPLE)
 }

@@ -1,9 +1,9 @@
 // One command through the command entry and through this program's own ledger and filter, and the comparison of the two. The program's own table has the rows of
 // the rules in force, and behind them the killers and the slots as the last command left them.
-use crate::compare::Reply;
-use crate::ledger::Ledger;
-use crate::masks::Masks;
-use crate::request::Request;
+use account::compare::Reply;
+use account::ledger::Ledger;
+use account::masks::Masks;
+use account::request::Request;
 use model::answer::Answer;
 use model::answer::Outcome;
 use model::value::Value;
@@ -38,7 +38,7 @@ impl Run {
     fn with_outcome(mut self, outcome: Outcome, due: u8) -> Run {
         let answer = outcome.answer;
         let value = outcome.value;
-        let reply = crate::compare::reply_of(answer);
+        let reply = account::compare::reply_of(answer);
         self.value = value;
         self.due = due;
         self.reply = reply;
@@ -67,7 +67,7 @@ fn keep_part(buffer: &[u8], table: &mut [u32], a: usize, e: usize) {
         return;
     }
     if e <= table.len() {
-        crate::bytes::copy(buffer, &mut table[a..e]);
+        account::bytes::copy(buffer, &mut table[a..e]);
     }
 }
 
@@ -81,17 +81,17 @@ fn keep(changed: bool, killers: &[u8], slots: &[u8], table: &mut [u32]) {
 
 // Whether killers and slots are as they were copied.
 fn unchanged(killers: &[u8], slots: &[u8], table: &[u32]) -> bool {
-    let a = crate::bytes::part(table, KILLERS_AT, SLOTS_AT);
-    let b = crate::bytes::part(table, SLOTS_AT, END);
-    crate::bytes::same_words(killers, a) && crate::bytes::same_words(slots, b)
+    let a = account::bytes::part(table, KILLERS_AT, SLOTS_AT);
+    let b = account::bytes::part(table, SLOTS_AT, END);
+    account::bytes::same_words(killers, a) && account::bytes::same_words(slots, b)
 }
 
 // The bytes of a fresh board in the buffers and in the table.
 pub fn clear(rows: &mut [u8], killers: &mut [u8], slots: &mut [u8], table: &mut [u32]) {
-    crate::bytes::fill(rows, 255);
-    crate::bytes::fill(killers, 255);
-    crate::bytes::fill(slots, 254);
-    crate::bytes::fill_words(table, crate::word::BLANK);
+    account::bytes::fill(rows, 255);
+    account::bytes::fill(killers, 255);
+    account::bytes::fill(slots, 254);
+    account::bytes::fill_words(table, account::word::BLANK);
     keep(true, killers, slots, table);
 }
 
@@ -126,7 +126,7 @@ fn enter(
     }
     board::command(
         value,
-        crate::bytes::first(&bytes, request.length),
+        account::bytes::first(&bytes, request.length),
         &mut rows[0..n],
         &mut killers[0..m],
         &mut slots[0..k],
@@ -146,7 +146,7 @@ fn changes(run: Run, kind: u8) -> bool {
 // The open slots after an accepted command, from scratch.
 fn open_after(open: Masks, kind: u8, ledger: Ledger, table: &[u32]) -> Masks {
     if writes(kind) {
-        crate::filter::open_slots(ledger, table)
+        account::filter::open_slots(ledger, table)
     } else {
         open
     }
@@ -157,7 +157,7 @@ fn accounted(run: Run, request: Request, due: u8, table: &mut [u32]) -> Run {
     if due != 0 {
         return run;
     }
-    let ledger = crate::ledger::after(run.ledger, request, table);
+    let ledger = account::ledger::after(run.ledger, request, table);
     let open = open_after(run.open, request.kind(), ledger, table);
     let mut next = run;
     next.ledger = ledger;
@@ -167,18 +167,18 @@ fn accounted(run: Run, request: Request, due: u8, table: &mut [u32]) -> Run {
 
 // Whether the bytes past the ends of the buffers are as they were.
 fn ends_hold(rows: &[u8], killers: &[u8], slots: &[u8]) -> bool {
-    let a = crate::bytes::byte(rows, crate::request::ROWS) == 255;
-    let b = crate::bytes::byte(killers, crate::request::KILLERS) == 255;
-    let c = crate::bytes::byte(slots, crate::request::SLOTS) == 254;
+    let a = account::bytes::byte(rows, account::request::ROWS) == 255;
+    let b = account::bytes::byte(killers, account::request::KILLERS) == 255;
+    let c = account::bytes::byte(slots, account::request::SLOTS) == 254;
     a & b & c
 }
 
 // What differs in killers and slots, where the command may have changed them and where not.
 fn record_difference(run: Run, changed: bool, table: &[u32], killers: &[u8], slots: &[u8]) -> u8 {
     if changed {
-        return crate::compare::record_difference(run.ledger, run.open, table, killers, slots);
+        return account::compare::record_difference(run.ledger, run.open, table, killers, slots);
     }
-    crate::compare::unless(unchanged(killers, slots, table), crate::compare::WRITTEN)
+    account::compare::unless(unchanged(killers, slots, table), account::compare::WRITTEN)
 }
 
 // What differs in the memory.
@@ -190,12 +190,12 @@ fn memory_difference(
     killers: &[u8],
     slots: &[u8],
 ) -> u8 {
-    if !crate::compare::value_holds(run.value, run.ledger) {
-        return crate::compare::VALUE;
+    if !account::compare::value_holds(run.value, run.ledger) {
+        return account::compare::VALUE;
     }
-    let due = crate::bytes::part(table, 0, KILLERS_AT);
-    if !crate::bytes::same_words(rows, due) || !ends_hold(rows, killers, slots) {
-        return crate::compare::ROWS;
+    let due = account::bytes::part(table, 0, KILLERS_AT);
+    if !account::bytes::same_words(rows, due) || !ends_hold(rows, killers, slots) {
+        return account::compare::ROWS;
     }
     record_difference(run, changed, table, killers, slots)
 }
@@ -205,8 +205,8 @@ fn answer_difference(before: Run, after: Run, kind: u8) -> u8 {
     let ledger = before.ledger;
     let counts = ledger.counts;
     let open = before.open;
-    let struck = crate::masks::lost(crate::masks::all(counts), open);
-    crate::compare::answer_difference(after.reply, after.due, kind, open, after.open, struck)
+    let struck = account::masks::lost(account::masks::all(counts), open);
+    account::compare::answer_difference(after.reply, after.due, kind, open, after.open, struck)
 }
 
 // The command both ways: handed to the command entry, and in this program's own account.
@@ -218,7 +218,7 @@ fn performed(
     slots: &mut [u8],
     table: &mut [u32],
 ) -> Run {
-    let due = crate::refusals::refusal(run.ledger, request);
+    let due = account::refusals::refusal(run.ledger, request);
     let outcome = enter(run.value, request, rows, killers, slots);
     let own = accounted(run, request, due, table);
     own.with_outcome(outcome, due)

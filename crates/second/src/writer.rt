@@ -1,11 +1,11 @@
 // The writer of random lists: the next command, from the ledger and a random number. Most rules are such that slots lose support through each other where one is
 // struck: their calls are neighbours in a circle, and their rows pair each slot with one or two others.
-use crate::bytes::wide;
-use crate::ledger::Ledger;
-use crate::ledger::Rules;
 use crate::random::Random;
-use crate::request::Request;
-use crate::word::column;
+use account::bytes::wide;
+use account::ledger::Ledger;
+use account::ledger::Rules;
+use account::request::Request;
+use account::word::column;
 ghost use Prim.Native.Nat.{_≤_, _<_};
 
 // What the lists of a size may reach.
@@ -259,7 +259,7 @@ fn call(first: usize, apart: usize, n: usize, columns: usize, k: usize) -> u8 {
 fn calls(writer: Writer, n: usize, columns: usize) -> u32 {
     let first = writer.below(n);
     let steps = apart(writer.next(), n);
-    crate::word::pack(
+    account::word::pack(
         call(first, steps, n, columns, 0),
         call(first, steps, n, columns, 1),
         call(first, steps, n, columns, 2),
@@ -367,7 +367,7 @@ fn row(writer: Writer, ledger: Ledger) -> Written {
     let b = writer.next();
     let c = b.next();
     let d = c.next();
-    let word = crate::word::pack(
+    let word = account::word::pack(
         field(writer, ledger, 0),
         field(b, ledger, 1),
         field(c, ledger, 2),
