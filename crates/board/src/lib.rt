@@ -1,10 +1,15 @@
-// THE COMMAND ENTRY: any bytes as a command, on any value and any buffers.
-// Proved: what it answers and leaves is what specs/Promise.antt of the crate model says; from that alone specs/Lists.antt has demand 3. Assumed: nothing.
+// THE ENTRIES: any bytes as a command, on any value and any buffers; and the five questions, which the crate questions has.
+// Proved: what the command entry answers and leaves is what specs/Promise.antt of the crate model says; from that alone specs/Lists.antt has demand 3. Assumed: nothing.
 use model::answer::Outcome;
 use model::command::Decoded;
 use model::command::Read;
 use model::value::Value;
 use model::value::bad_lengths;
+pub use questions::open_slots;
+pub use questions::row_bytes;
+pub use questions::row_state;
+pub use questions::slot_state;
+pub use questions::support;
 ghost use mathlib.Core.Path.{_≡_};
 ghost use Rattle.model.specs.Commands.{readAt};
 ghost use Rattle.model.specs.Representation.{stateOf};
