@@ -299,8 +299,20 @@ fn line(name: &str, command: &str, changes: String, [ours, afresh, native]: [f64
     );
 }
 
+/// The boards of this name, or all where it is empty. A name that none has ends the program with the list of them.
+fn chosen(name: &str) -> Vec<Case> {
+    let mut cases = vec![busiest(), dense("dense", 24, 60), dense("overfull", 64, 20), chain(), everyday()];
+    let names: Vec<&str> = cases.iter().map(|case| case.name).collect();
+    if !name.is_empty() && !names.contains(&name) {
+        eprintln!("there is no board '{}'; there are: {}", name, names.join(", "));
+        std::process::exit(2);
+    }
+    cases.retain(|case| name.is_empty() || case.name == name);
+    cases
+}
+
 fn main() {
-    let only = std::env::args().nth(1);
+    let cases = chosen(&std::env::args().nth(1).unwrap_or_default());
     let clock = clock_cost();
     println!("Nanoseconds per command, the mean over the turns of a round of each one's median; reading the clock, {} ns, is taken off.\nA ratio above 1: the library is faster.\n", clock);
     println!(
@@ -310,9 +322,5 @@ fn main() {
     println!(
         "|------------|------|---------------------------------|-----------|-----------|-------|-----------|-------|"
     );
-    for case in [busiest(), dense("dense", 24, 60), dense("overfull", 64, 20), chain(), everyday()] {
-        if only.as_ref().is_none_or(|name| name == case.name) {
-            measure(&case, clock);
-        }
-    }
+    cases.iter().for_each(|case| measure(case, clock));
 }

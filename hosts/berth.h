@@ -1,27 +1,31 @@
 /*
- * The berth board, for a host in C (or C++). Link libberth.a.
+ * The berth board, for a host in C (C99 and later) or C++. Link libberth.a.
  *
  * A board has 1 to 32 calls, each with 1 to 32 slots, and up to 64 rules. Everything is numbered from 0 and is one unsigned byte. The library keeps nothing:
  * the host holds a value and three buffers, hands them to every function, and keeps what comes back. struct berth_board below holds all of it.
  *
  * Each function is proved to return, and to stay inside what it is lent, whatever the value, the buffers and the command's bytes hold. What the host has to see
- * to: a pointer is not null and reaches as far as its length says, and the buffers of one call do not overlap each other.
+ * to: the library is the header's (berth_header_fits), a pointer is not null and reaches as far as its length says, and the buffers of one call do not
+ * overlap each other.
+ *
+ * A board takes 22,183 bytes, 679 of them the value's, and the library takes nothing from a heap. It has no variables, so boards have nothing to do with each
+ * other: threads may work on different boards at once. A board is one thread's at a time, except that several may ask it questions while none sends a command.
  *
  * Memory that is lent, in bytes:
  *   rows     16,384  row w of rule r fills four bytes from 256 * r + 4 * w: a slot for each column, 255 in a spare column. Rows beyond a rule's last, and
  *                    rules out of force, hold 255.
  *   killers   4,096  byte 64 * r + w is the column (0 to 3) of a struck slot in row w of rule r where that row is dead, else 255.
  *   slots     1,024  byte 32 * call + slot is 255 for an open slot, 254 for one that is not on the board, else its cause: the number of a rule on its call.
- * Before the first command they hold 255, 255 and 254 throughout, beside the value of berth_fresh(). As long as only commands write them, the open slots are the
- * largest arc-consistent set of slots for the rules in force. If the host alters any of it, functions still return, stay inside and change nothing when they
- * refuse.
+ * Before the first command they hold 255, 255 and 254 throughout, beside the value of berth_fresh(). As long as only commands write them, what is open is arc
+ * consistent under the rules in force, and no larger set of slots is. If the host alters any of it, functions still return, stay inside and change nothing
+ * when they refuse.
  *
  * A command is one byte of kind and a body:
- *   1 board  32 slot counts, 0 after the last call      a new board; rules and draft are gone
- *   2 head   number, arity (1 to 4), four calls         starts a draft of a rule, in place of any other
- *   3 row    four slots                                 adds a row to the draft
- *   4 put                                               the draft comes into force, then there is none
- *   5 lift   number                                     the rule leaves force; the draft is untouched
+ *   1 board  32 slot counts, 0 after the last call      a new board, without rules and draft
+ *   2 head   number, arity (1 to 4), four calls         a draft of a rule, in place of any other
+ *   3 row    four slots                                 one more row of the draft
+ *   4 put    nothing                                    brings the draft into force, and leaves no draft
+ *   5 lift   number                                     the rule leaves force, and the draft stays
  * Calls and slots past the arity are 255.
  */
 #ifndef BERTH_H
@@ -38,65 +42,121 @@ extern "C" {
 #define BERTH_ROWS 16384
 #define BERTH_KILLERS 4096
 #define BERTH_SLOTS 1024
+#define BERTH_VALUE_SIZE 679
 
 /*
- * A reply's number: 0, or why it was refused. The first condition that holds decides; commands and questions check in the order that stands with them below.
- * Number 2, a file of over 32,768 bytes, is the sheet program's alone.
+ * The stack that a call needs, with the copies of the value that its caller makes. It is measured and not proved: on x86-64, over every function and the
+ * commands of a full board, hosts/stack.c found 4,840 bytes where its caller was compiled without optimisation, and 4,632 with it.
+ */
+#define BERTH_STACK 8192
+
+/* The version that this header is of. It rises with any change of a struct, of a function or of what one means. */
+#define BERTH_VERSION 1
+
+/* The version of the library, and the bytes of its value. They are plain numbers, so that they can be asked whatever else differs. */
+uint32_t berth_version(void);
+size_t berth_value_size(void);
+
+/* The kinds of commands. */
+enum berth_kind { BERTH_BOARD = 1, BERTH_HEAD = 2, BERTH_ROW = 3, BERTH_PUT = 4, BERTH_LIFT = 5 };
+
+/*
+ * A reply's number: 0, or why it was refused; berth_refusal_text has the conditions. The first that holds decides: commands and questions check in the order
+ * that stands with them below. BERTH_FILE_LENGTH is the sheet program's alone.
  */
 enum berth_refusal {
-    BERTH_BUFFER_LENGTH = 1,     /* a buffer is not of its length */
-    BERTH_UNKNOWN_KIND = 3,      /* the kind is not 1 to 5, or there is no byte at all */
-    BERTH_BODY_LENGTH = 4,       /* the body is cut short, or bytes are left over behind it */
-    BERTH_BAD_COUNTS = 5,        /* the first count is 0, a count is over 32, or one is not 0 after a 0 */
-    BERTH_NO_BOARD = 6,          /* there is no board */
-    BERTH_NUMBER_OVER_63 = 7,    /* a rule's number is over 63 */
-    BERTH_BAD_ARITY = 8,         /* the arity is not 1 to 4 */
-    BERTH_CALL_OFF_BOARD = 9,    /* a call of the head is not on the board */
-    BERTH_CALL_TWICE = 10,       /* a call stands twice in the head */
-    BERTH_SPARE_FIELD = 11,      /* a field past the arity is not 255 */
-    BERTH_NO_DRAFT = 12,         /* there is no draft */
-    BERTH_DRAFT_FULL = 13,       /* the draft has 64 rows */
-    BERTH_SLOT_OFF_CALL = 14,    /* a slot of the row is not on its call */
-    BERTH_ROW_TWICE = 15,        /* the row is in the draft already */
-    BERTH_NUMBER_IN_FORCE = 16,  /* the draft's number is in force already */
-    BERTH_NOT_IN_FORCE = 17,     /* the number is not in force */
-    BERTH_NO_SUCH_CALL = 18,     /* there is no such call */
-    BERTH_NO_SUCH_SLOT = 19,     /* there is no such slot of the call */
-    BERTH_NO_SUCH_ROW = 20,      /* the row's number is not below the rule's row count */
-    BERTH_COLUMN_OVER_ARITY = 21 /* the column is not below the rule's arity */
+    BERTH_BUFFER_LENGTH = 1,
+    BERTH_FILE_LENGTH = 2,
+    BERTH_UNKNOWN_KIND = 3,
+    BERTH_BODY_LENGTH = 4,
+    BERTH_BAD_COUNTS = 5,
+    BERTH_NO_BOARD = 6,
+    BERTH_NUMBER_OVER_63 = 7,
+    BERTH_BAD_ARITY = 8,
+    BERTH_CALL_OFF_BOARD = 9,
+    BERTH_CALL_TWICE = 10,
+    BERTH_SPARE_FIELD = 11,
+    BERTH_NO_DRAFT = 12,
+    BERTH_DRAFT_FULL = 13,
+    BERTH_SLOT_OFF_CALL = 14,
+    BERTH_ROW_TWICE = 15,
+    BERTH_NUMBER_IN_FORCE = 16,
+    BERTH_NOT_IN_FORCE = 17,
+    BERTH_NO_SUCH_CALL = 18,
+    BERTH_NO_SUCH_SLOT = 19,
+    BERTH_NO_SUCH_ROW = 20,
+    BERTH_NO_SUCH_COLUMN = 21
 };
+
+/* The condition that a refusal's number stands for. */
+static inline const char *berth_refusal_text(uint8_t number) {
+    switch (number) {
+    case BERTH_BUFFER_LENGTH: return "a buffer is not of its length";
+    case BERTH_FILE_LENGTH: return "the input is over 32,768 bytes";
+    case BERTH_UNKNOWN_KIND: return "no kind has this number, or there is no byte at all";
+    case BERTH_BODY_LENGTH: return "the body is cut short, or bytes are left over behind it";
+    case BERTH_BAD_COUNTS: return "the first count is 0, one is over 32, or one is not 0 after a 0";
+    case BERTH_NO_BOARD: return "there is no board";
+    case BERTH_NUMBER_OVER_63: return "the rule's number is over 63";
+    case BERTH_BAD_ARITY: return "the arity is not 1 to 4";
+    case BERTH_CALL_OFF_BOARD: return "a call of the head is not on the board";
+    case BERTH_CALL_TWICE: return "a call stands twice in the head";
+    case BERTH_SPARE_FIELD: return "a field past the arity is not 255";
+    case BERTH_NO_DRAFT: return "there is no draft";
+    case BERTH_DRAFT_FULL: return "the draft has 64 rows";
+    case BERTH_SLOT_OFF_CALL: return "a slot of the row is not on its call";
+    case BERTH_ROW_TWICE: return "the row is in the draft already";
+    case BERTH_NUMBER_IN_FORCE: return "the draft's number is in force already";
+    case BERTH_NOT_IN_FORCE: return "no rule of this number is in force";
+    case BERTH_NO_SUCH_CALL: return "there is no such call";
+    case BERTH_NO_SUCH_SLOT: return "there is no such slot";
+    case BERTH_NO_SUCH_ROW: return "the rule has no such row";
+    case BERTH_NO_SUCH_COLUMN: return "the rule has no such column";
+    default: return "no refusal has this number";
+    }
+}
 
 /* The calls and the heads of the rules in force. */
 struct berth_heads {
     uint8_t counts[32];  /* slots of each call; 0 after the last call */
     uint8_t arity[64];   /* columns of each rule; 0 where the number is not in force */
-    uint8_t calls[256];  /* calls of rule r from 4 * r on; 255 past its columns */
+    uint8_t scope[256];  /* calls of rule r from 4 * r on; 255 past its columns */
     uint8_t lengths[64]; /* rows of each rule */
 };
 
-/* The rule that is being written. An arity of 0 means that there is none. */
-struct berth_draft {
-    uint8_t number; /* the number that it is to come into force under */
+/* A rule. An arity of 0 means that there is none. */
+struct berth_rule {
     uint8_t arity;
-    uint8_t calls[4];  /* 255 past its columns */
+    uint8_t scope[4];  /* its calls; 255 past its columns */
     uint8_t length;    /* number of rows */
     uint8_t rows[256]; /* row w from 4 * w on; 255 past its columns and rows */
 };
 
-/* The value beside the buffers: 679 bytes, with no padding. */
+/* The rule that is being written, and the number that it is to come into force under. */
+struct berth_draft {
+    uint8_t number;
+    struct berth_rule rule;
+};
+
+/* The value beside the buffers, with no padding. */
 struct berth_value {
     struct berth_heads heads;
     struct berth_draft draft;
 };
 
-/* The compiler lays it out as the library does. */
-typedef char berth_value_has_679_bytes[sizeof(struct berth_value) == 679 ? 1 : -1];
+/* The compiler leaves no room between the fields. */
+typedef char berth_value_is_packed[sizeof(struct berth_value) == BERTH_VALUE_SIZE ? 1 : -1];
+
+/* Whether the linked library is the one that this header describes: 1, or 0, and then no other function may be called. */
+static inline int berth_header_fits(void) {
+    return berth_version() == BERTH_VERSION && berth_value_size() == sizeof(struct berth_value);
+}
 
 /* The value before the first command. */
 struct berth_value berth_fresh(void);
 
 /*
- * A command. The reply's value is to be kept for the next one. A refusal changes no byte of the buffers, and its value is the one handed in.
+ * A command. The reply's value is to be kept for the next one. Where it is refused the buffers stay as they were, and the value is the one handed in.
  * Checked, by kind: 1, 3, 4, then
  *   board 5; head 6, 7, 8, 9, 10, 11; row 6, 12, 13, 14, 11, 15; put 6, 12, 16; lift 6, 7, 17.
  */
@@ -157,6 +217,13 @@ struct berth_support_reply {
 struct berth_support_reply berth_support(struct berth_value value, const uint8_t *rows, size_t rows_length, const uint8_t *killers, size_t killers_length,
                                          const uint8_t *slots, size_t slots_length, uint8_t rule, uint8_t column, uint8_t slot);
 
+/* The caller has to look at what such a function returns. */
+#if defined(__GNUC__)
+#define BERTH_CHECKED __attribute__((warn_unused_result))
+#else
+#define BERTH_CHECKED
+#endif
+
 /* A board with its memory. The functions on it hand its parts to the functions above, and keep the value that a command leaves. */
 struct berth_board {
     struct berth_value value;
@@ -168,12 +235,15 @@ struct berth_board {
 /* The parts of a board, in the order in which the questions take them. */
 #define BERTH_PARTS(board) (board)->value, (board)->rows, BERTH_ROWS, (board)->killers, BERTH_KILLERS, (board)->slots, BERTH_SLOTS
 
-/* Makes it a fresh board, before any command. */
-static inline void berth_board_clear(struct berth_board *board) {
+/* Makes it a fresh board, before any command, and returns 1. Where the library is not the header's it returns 0 and does nothing. */
+BERTH_CHECKED static inline int berth_board_clear(struct berth_board *board) {
+    if (!berth_header_fits())
+        return 0;
     board->value = berth_fresh();
     memset(board->rows, 255, BERTH_ROWS);
     memset(board->killers, 255, BERTH_KILLERS);
     memset(board->slots, 254, BERTH_SLOTS);
+    return 1;
 }
 
 static inline struct berth_command_reply berth_board_command(struct berth_board *board, const uint8_t *bytes, size_t length) {
@@ -181,6 +251,84 @@ static inline struct berth_command_reply berth_board_command(struct berth_board 
         berth_command(board->value, bytes, length, board->rows, BERTH_ROWS, board->killers, BERTH_KILLERS, board->slots, BERTH_SLOTS);
     board->value = reply.value;
     return reply;
+}
+
+/*
+ * The bytes of a command. Too many fields for its kind make it one byte too long, and the board refuses it (BERTH_BODY_LENGTH).
+ */
+struct berth_command_bytes {
+    size_t length;
+    uint8_t bytes[34];
+};
+
+/* A command of so many bytes, with nothing but its kind and what stands for fields that are left out. */
+static inline struct berth_command_bytes berth_make_blank(uint8_t kind, size_t length, uint8_t spare) {
+    struct berth_command_bytes made;
+    memset(made.bytes, spare, sizeof made.bytes);
+    made.bytes[0] = kind;
+    made.length = length;
+    return made;
+}
+
+/* The command with these fields from the place on. */
+static inline struct berth_command_bytes berth_make_filled(struct berth_command_bytes made, size_t place, const uint8_t *fields, size_t count) {
+    size_t room = made.length - place;
+    if (count > room)
+        made.length++;
+    else if (count > 0)
+        memcpy(made.bytes + place, fields, count);
+    return made;
+}
+
+/* A new board with a slot count for each of its calls. */
+static inline struct berth_command_bytes berth_make_board(const uint8_t *counts, size_t calls) {
+    return berth_make_filled(berth_make_blank(BERTH_BOARD, 33, 0), 1, counts, calls);
+}
+
+/* The start of a draft: the rule's number, and the calls of its columns. */
+static inline struct berth_command_bytes berth_make_head(uint8_t number, const uint8_t *calls, size_t arity) {
+    struct berth_command_bytes made = berth_make_blank(BERTH_HEAD, 7, 255);
+    made.bytes[1] = number;
+    made.bytes[2] = (uint8_t)arity;
+    return berth_make_filled(made, 3, calls, arity);
+}
+
+/* A row of the draft: a slot for each column. */
+static inline struct berth_command_bytes berth_make_row(const uint8_t *slots, size_t arity) {
+    return berth_make_filled(berth_make_blank(BERTH_ROW, 5, 255), 1, slots, arity);
+}
+
+static inline struct berth_command_bytes berth_make_put(void) {
+    return berth_make_blank(BERTH_PUT, 1, 0);
+}
+
+static inline struct berth_command_bytes berth_make_lift(uint8_t number) {
+    return berth_make_filled(berth_make_blank(BERTH_LIFT, 2, 0), 1, &number, 1);
+}
+
+static inline struct berth_command_reply berth_board_obey(struct berth_board *board, struct berth_command_bytes made) {
+    return berth_board_command(board, made.bytes, made.length);
+}
+
+/* The five kinds on a board, each made as above. */
+static inline struct berth_command_reply berth_board_start(struct berth_board *board, const uint8_t *counts, size_t calls) {
+    return berth_board_obey(board, berth_make_board(counts, calls));
+}
+
+static inline struct berth_command_reply berth_board_head(struct berth_board *board, uint8_t number, const uint8_t *calls, size_t arity) {
+    return berth_board_obey(board, berth_make_head(number, calls, arity));
+}
+
+static inline struct berth_command_reply berth_board_row(struct berth_board *board, const uint8_t *slots, size_t arity) {
+    return berth_board_obey(board, berth_make_row(slots, arity));
+}
+
+static inline struct berth_command_reply berth_board_put(struct berth_board *board) {
+    return berth_board_obey(board, berth_make_put());
+}
+
+static inline struct berth_command_reply berth_board_lift(struct berth_board *board, uint8_t number) {
+    return berth_board_obey(board, berth_make_lift(number));
 }
 
 static inline struct berth_slots_reply berth_board_open_slots(const struct berth_board *board, uint8_t call) {

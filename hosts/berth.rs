@@ -2,14 +2,18 @@
 //! commands change them; what a board is, and what the bytes of a command are, is said in berth.h.
 //!
 //! The functions of the module `lent` work on memory that the caller lends, of any length and with any contents: the library is proved to return and to stay
-//! inside it, so they are safe. `Board` hands its own memory to them.
+//! inside it, so they are safe with a library of this file's version. `Board` hands its own memory to them.
 #![allow(dead_code)]
 
 use std::fmt;
+use std::mem::size_of;
 
 pub const ROWS: usize = 16384;
 pub const KILLERS: usize = 4096;
 pub const SLOTS: usize = 1024;
+
+/// The version that this file is of; the library has its own.
+pub const VERSION: u32 = 1;
 
 /// The calls and the heads of the rules in force.
 #[repr(C)]
@@ -20,23 +24,30 @@ pub struct Heads {
     /// columns of each rule; 0 where the number is not in force
     pub arity: [u8; 64],
     /// calls of rule r from 4 * r on; 255 past its columns
-    pub calls: [u8; 256],
+    pub scope: [u8; 256],
     /// rows of each rule
     pub lengths: [u8; 64],
 }
 
-/// The rule that is being written. An arity of 0 means that there is none.
+/// A rule. An arity of 0 means that there is none.
 #[repr(C)]
 #[derive(Clone, Copy, Debug, PartialEq, Eq)]
-pub struct Draft {
-    pub number: u8,
+pub struct Rule {
     pub arity: u8,
-    /// 255 past its columns
-    pub calls: [u8; 4],
+    /// its calls; 255 past its columns
+    pub scope: [u8; 4],
     /// number of rows
     pub length: u8,
     /// row w from 4 * w on; 255 past its columns and rows
     pub rows: [u8; 256],
+}
+
+/// The rule that is being written, and the number that it is to come into force under.
+#[repr(C)]
+#[derive(Clone, Copy, Debug, PartialEq, Eq)]
+pub struct Draft {
+    pub number: u8,
+    pub rule: Rule,
 }
 
 /// The value beside the buffers.
@@ -47,38 +58,71 @@ pub struct Value {
     pub draft: Draft,
 }
 
-/// Why a command or a question was refused: a number of the scope document's table.
-#[derive(Clone, Copy, Debug, PartialEq, Eq)]
-pub struct Refusal {
-    pub number: u8,
+/// Declares `Refusal` from a table of numbers, names and words. The header's `enum berth_refusal` and `berth_refusal_text` say the same.
+macro_rules! refusals {
+    ($($number:literal $name:ident $text:literal)+) => {
+        /// Why a command or a question was refused.
+        #[derive(Clone, Copy, Debug, PartialEq, Eq, Hash)]
+        pub enum Refusal {
+            $(#[doc = $text] $name,)+
+            /// a number that has no name here
+            Other(u8),
+        }
+
+        impl Refusal {
+            /// The refusal that has this number.
+            pub const fn from_number(number: u8) -> Self {
+                match number {
+                    $($number => Refusal::$name,)+
+                    other => Refusal::Other(other),
+                }
+            }
+
+            pub const fn number(self) -> u8 {
+                match self {
+                    $(Refusal::$name => $number,)+
+                    Refusal::Other(other) => other,
+                }
+            }
+
+            /// The condition that held.
+            pub const fn text(self) -> &'static str {
+                match self {
+                    $(Refusal::$name => $text,)+
+                    Refusal::Other(_) => "no refusal has this number",
+                }
+            }
+        }
+    };
+}
+
+refusals! {
+    1 BufferLength "a buffer is not of its length"
+    2 FileLength "the input is over 32,768 bytes"
+    3 UnknownKind "no kind has this number, or there is no byte at all"
+    4 BodyLength "the body is cut short, or bytes are left over behind it"
+    5 BadCounts "the first count is 0, one is over 32, or one is not 0 after a 0"
+    6 NoBoard "there is no board"
+    7 NumberOver63 "the rule's number is over 63"
+    8 BadArity "the arity is not 1 to 4"
+    9 CallOffBoard "a call of the head is not on the board"
+    10 CallTwice "a call stands twice in the head"
+    11 SpareField "a field past the arity is not 255"
+    12 NoDraft "there is no draft"
+    13 DraftFull "the draft has 64 rows"
+    14 SlotOffCall "a slot of the row is not on its call"
+    15 RowTwice "the row is in the draft already"
+    16 NumberInForce "the draft's number is in force already"
+    17 NotInForce "no rule of this number is in force"
+    18 NoSuchCall "there is no such call"
+    19 NoSuchSlot "there is no such slot"
+    20 NoSuchRow "the rule has no such row"
+    21 NoSuchColumn "the rule has no such column"
 }
 
 impl fmt::Display for Refusal {
     fn fmt(&self, f: &mut fmt::Formatter) -> fmt::Result {
-        let condition = match self.number {
-            1 => "a buffer is not of its length",
-            3 => "the kind is not 1 to 5, or there is no byte at all",
-            4 => "the body is cut short, or bytes are left over behind it",
-            5 => "the first count is 0, a count is over 32, or one is not 0 after a 0",
-            6 => "there is no board",
-            7 => "a rule's number is over 63",
-            8 => "the arity is not 1 to 4",
-            9 => "a call of the head is not on the board",
-            10 => "a call stands twice in the head",
-            11 => "a field past the arity is not 255",
-            12 => "there is no draft",
-            13 => "the draft has 64 rows",
-            14 => "a slot of the row is not on its call",
-            15 => "the row is in the draft already",
-            16 => "the draft's number is in force already",
-            17 => "the number is not in force",
-            18 => "there is no such call",
-            19 => "there is no such slot of the call",
-            20 => "the row's number is not below the rule's row count",
-            21 => "the column is not below the rule's arity",
-            _ => "no condition of the table",
-        };
-        write!(f, "refused {}: {}", self.number, condition)
+        write!(f, "refused {}: {}", self.number(), self.text())
     }
 }
 
@@ -155,6 +199,8 @@ pub mod lent {
 
     #[rustfmt::skip]
     extern "C" {
+        fn berth_version() -> u32;
+        fn berth_value_size() -> usize;
         fn berth_fresh() -> Value;
         fn berth_command(value: Value, bytes: Lent, b: usize, rows: LentMut, r: usize, killers: LentMut, k: usize, slots: LentMut, s: usize) -> CommandReply;
         fn berth_open_slots(value: Value, rows: Lent, r: usize, killers: Lent, k: usize, slots: Lent, s: usize, call: u8) -> SlotsReply;
@@ -168,12 +214,28 @@ pub mod lent {
         if number == 0 {
             Ok(given)
         } else {
-            Err(Refusal { number })
+            Err(Refusal::from_number(number))
         }
     }
 
-    /// The value before the first command.
+    /// The version of the linked library.
+    pub fn library_version() -> u32 {
+        // SAFETY: it takes nothing and returns a number, in every version.
+        unsafe { berth_version() }
+    }
+
+    /// Whether the linked library is the one that this file describes. If not, nothing else may be called.
+    pub fn library_fits() -> bool {
+        // SAFETY: it takes nothing and returns a number, in every version.
+        let size = unsafe { berth_value_size() };
+        library_version() == VERSION && size == size_of::<Value>()
+    }
+
+    /// The value before the first command. Panics where the library is not this file's.
     pub fn fresh() -> Value {
+        let found = library_version();
+        assert!(library_fits(), "libberth.a is not the library of this berth.rs (versions {found} and {VERSION})");
+        // SAFETY: it takes nothing, and the library's `Value` is laid out like this file's.
         unsafe { berth_fresh() }
     }
 
@@ -185,6 +247,8 @@ pub mod lent {
         killers: &mut [u8],
         slots: &mut [u8],
     ) -> Answer<Report> {
+        // SAFETY: each pointer is a slice's, with that slice's length, so it reaches as far; the three that are written are unique borrows, which overlap nothing.
+        // Whatever the slices and the value hold, the function returns and writes only inside them.
         let reply = unsafe {
             berth_command(
                 *value,
@@ -215,6 +279,8 @@ pub mod lent {
     // The value and the three slices, as the questions take them, before the question's own numbers.
     macro_rules! ask {
         ($question:ident, $memory:expr, $($number:expr),+) => {
+            // SAFETY: each pointer is a slice's, with that slice's length, so it reaches as far. Whatever the slices, the value and the numbers hold, a question
+            // returns, reads only inside them and writes nothing.
             unsafe {
                 $question(
                     *$memory.value,
@@ -296,7 +362,7 @@ fn filled(start: &[u8], fields: &[u8], length: usize, spare: u8) -> Vec<u8> {
 }
 
 impl Board {
-    /// A fresh board, before any command.
+    /// A fresh board, before any command. Panics where the library is not this file's.
     pub fn new() -> Self {
         Board {
             value: lent::fresh(),

@@ -1,26 +1,16 @@
-/* The worked session of the scope document on a board of a C host: a line for each command, as the sheet program writes it, and after each put and lift the
-   open slots of every call. */
+/* The worked session of docs/SCOPE.md on a board of a C host: a line for each command, as the sheet program writes it, and after each put and lift the open
+   slots of every call. What was refused, and why, goes to standard error. */
 #include "berth.h"
 #include <stdio.h>
 
-/* A command's bytes and their number. */
-struct command {
-    size_t length;
-    uint8_t bytes[33];
-};
-
-static const struct command session[] = {
-    {33, {1, 2, 2}},               /* two calls of two slots */
-    {7, {2, 0, 2, 0, 1, 255, 255}}, /* rule 0 on calls 0 and 1 */
-    {5, {3, 0, 0, 255, 255}},
-    {5, {3, 1, 1, 255, 255}},
-    {1, {4}},
-    {7, {2, 5, 1, 0, 255, 255, 255}}, /* rule 5 on call 0 */
-    {5, {3, 0, 255, 255, 255}},
-    {1, {4}},
-    {2, {5, 5}},
-    {2, {5, 5}}, /* no longer in force */
-};
+static void print_reply(enum berth_kind kind, struct berth_command_reply reply) {
+    if (reply.number == 0) {
+        printf("a %d %zu %zu\n", kind, reply.struck, reply.reopened);
+        return;
+    }
+    printf("r %d %d\n", kind, reply.number);
+    fprintf(stderr, "refused: %s\n", berth_refusal_text(reply.number));
+}
 
 static void print_slots(const struct berth_board *board) {
     for (uint8_t call = 0; call < 32; call++) {
@@ -36,18 +26,25 @@ static void print_slots(const struct berth_board *board) {
 }
 
 int main(void) {
+    static const uint8_t counts[] = {2, 2}, calls[] = {0, 1}, row_0[] = {0, 0}, row_1[] = {1, 1};
     static struct berth_board board;
-    berth_board_clear(&board);
-    for (size_t i = 0; i < sizeof session / sizeof session[0]; i++) {
-        uint8_t kind = session[i].bytes[0];
-        struct berth_command_reply reply = berth_board_command(&board, session[i].bytes, session[i].length);
-        if (reply.number != 0)
-            printf("r %d %d\n", kind, reply.number);
-        else
-            printf("a %d %zu %zu\n", kind, reply.struck, reply.reopened);
-        if (reply.number == 0 && (kind == 4 || kind == 5))
-            print_slots(&board);
+    if (!berth_board_clear(&board)) {
+        fprintf(stderr, "libberth.a is not the library of this berth.h (versions %u and %u)\n", (unsigned)berth_version(), BERTH_VERSION);
+        return 1;
     }
+    print_reply(BERTH_BOARD, berth_board_start(&board, counts, 2));
+    print_reply(BERTH_HEAD, berth_board_head(&board, 0, calls, 2));
+    print_reply(BERTH_ROW, berth_board_row(&board, row_0, 2));
+    print_reply(BERTH_ROW, berth_board_row(&board, row_1, 2));
+    print_reply(BERTH_PUT, berth_board_put(&board));
+    print_slots(&board);
+    print_reply(BERTH_HEAD, berth_board_head(&board, 5, calls, 1));
+    print_reply(BERTH_ROW, berth_board_row(&board, row_0, 1));
+    print_reply(BERTH_PUT, berth_board_put(&board));
+    print_slots(&board);
+    print_reply(BERTH_LIFT, berth_board_lift(&board, 5));
+    print_slots(&board);
+    print_reply(BERTH_LIFT, berth_board_lift(&board, 5));
     printf("end\n");
     return 0;
 }

@@ -1,5 +1,5 @@
-//! The worked session of the scope document on a board of a Rust host: a line for each command, as the sheet program writes it, and after each put and lift
-//! the open slots of every call.
+//! The worked session of docs/SCOPE.md on a board of a Rust host: a line for each command, as the sheet program writes it, and after each put and lift the open
+//! slots of every call. What was refused, and why, goes to standard error.
 mod berth;
 
 use berth::{Answer, Board, Report};
@@ -7,7 +7,10 @@ use berth::{Answer, Board, Report};
 fn print_answer(kind: u8, answer: Answer<Report>) {
     match answer {
         Ok(report) => println!("a {} {} {}", kind, report.struck, report.reopened),
-        Err(refusal) => println!("r {} {}", kind, refusal.number),
+        Err(refusal) => {
+            println!("r {} {}", kind, refusal.number());
+            eprintln!("refused: {}", refusal.text());
+        }
     }
 }
 

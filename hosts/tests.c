@@ -1,4 +1,5 @@
-/* Tests of the header: every function from C, on a board with two struck slots. What the functions answer in general is tested from Rust (tests/main.rs). */
+/* Tests of the header: every function from C, on a board with two struck slots. What the library answers in general is tested from Rust (tests/ at the top).
+   With the word texts it prints the refusals and their texts. */
 #include "berth.h"
 #include <stdio.h>
 
@@ -11,21 +12,57 @@ static void same(const char *what, long found, long wanted) {
     failed = 1;
 }
 
+/* A board that was cleared is a fresh one, whatever it held. */
+static void clear(struct berth_board *board) {
+    struct berth_value fresh = berth_fresh();
+    memset(board, 7, sizeof *board);
+    same("clear", berth_board_clear(board), 1);
+    same("fresh value", memcmp(&board->value, &fresh, sizeof fresh), 0);
+    for (int i = 0; i < BERTH_ROWS; i++)
+        same("fresh row byte", board->rows[i], 255);
+    for (int i = 0; i < BERTH_KILLERS; i++)
+        same("fresh killer byte", board->killers[i], 255);
+    for (int i = 0; i < BERTH_SLOTS; i++)
+        same("fresh slot byte", board->slots[i], 254);
+    same("open slots without a board", berth_board_open_slots(board, 0).number, BERTH_NO_BOARD);
+}
+
 /* Two calls of two slots. Rule 0 joins equal slots, and rule 5 leaves slot 0 of call 0: slot 1 of each call is struck, of call 0 by rule 5 and of call 1 by rule 0. */
 static void make_board(struct berth_board *board) {
-    static const uint8_t counts[33] = {1, 2, 2};
-    static const uint8_t commands[7][7] = {{2, 0, 2, 0, 1, 255, 255}, {3, 0, 0, 255, 255}, {3, 1, 1, 255, 255}, {4}, {2, 5, 1, 0, 255, 255, 255}, {3, 0, 255, 255, 255}, {4}};
-    static const size_t lengths[7] = {7, 5, 5, 1, 7, 5, 1};
-    berth_board_clear(board);
-    same("open slots without a board", berth_board_open_slots(board, 0).number, BERTH_NO_BOARD);
-    same("board", berth_board_command(board, counts, 33).number, 0);
-    for (int i = 0; i < 6; i++)
-        same("command", berth_board_command(board, commands[i], lengths[i]).number, 0);
-    struct berth_command_reply reply = berth_board_command(board, commands[6], lengths[6]);
+    static const uint8_t counts[] = {2, 2}, calls[] = {0, 1}, row_0[] = {0, 0}, row_1[] = {1, 1};
+    same("board", berth_board_start(board, counts, 2).number, 0);
+    same("head", berth_board_head(board, 0, calls, 2).number, 0);
+    same("row", berth_board_row(board, row_0, 2).number, 0);
+    same("row", berth_board_row(board, row_1, 2).number, 0);
+    same("put", berth_board_put(board).number, 0);
+    same("head", berth_board_head(board, 5, calls, 1).number, 0);
+    same("row", berth_board_row(board, row_0, 1).number, 0);
+    struct berth_command_reply reply = berth_board_put(board);
     same("put", reply.number, 0);
     same("S", (long)reply.struck, 2);
     same("R", (long)reply.reopened, 0);
     same("T", (long)reply.touched, 2);
+}
+
+/* The bytes that are made are these. */
+static void same_bytes(const char *what, struct berth_command_bytes made, const uint8_t *wanted, size_t length) {
+    same(what, (long)made.length, (long)length);
+    same(what, memcmp(made.bytes, wanted, length), 0);
+}
+
+static void build(void) {
+    static const uint8_t fields[34] = {3, 1, 2, 0}, board[33] = {1, 3, 1, 2}, whole[33] = {1, 3, 1, 2, 0};
+    static const uint8_t head[7] = {2, 9, 2, 3, 1, 255, 255}, row[5] = {3, 3, 1, 2, 255}, put[1] = {4}, lift[2] = {5, 63};
+    same_bytes("board's bytes", berth_make_board(fields, 3), board, 33);
+    same_bytes("bytes of a board of 32 calls", berth_make_board(fields, 32), whole, 33);
+    same_bytes("head's bytes", berth_make_head(9, fields, 2), head, 7);
+    same_bytes("row's bytes", berth_make_row(fields, 3), row, 5);
+    same_bytes("put's bytes", berth_make_put(), put, 1);
+    same_bytes("lift's bytes", berth_make_lift(63), lift, 2);
+    same("a board of 33 calls", (long)berth_make_board(fields, 33).length, 34);
+    same("a head of five calls", (long)berth_make_head(9, fields, 5).length, 8);
+    same("a row of five slots", (long)berth_make_row(fields, 5).length, 6);
+    same("no slots", berth_make_row(NULL, 0).bytes[1], 255);
 }
 
 static void ask(const struct berth_board *board) {
@@ -40,29 +77,56 @@ static void ask(const struct berth_board *board) {
     same("living row", berth_board_row_state(board, 0, 0).killer, 255);
     same("killer", berth_board_row_state(board, 0, 1).killer, 0);
     same("no row", berth_board_row_state(board, 0, 2).number, BERTH_NO_SUCH_ROW);
-    same("row's place", berth_board_row_bytes(board, 5, 0) - board->rows, 1280);
-    same("row's byte", berth_board_row_bytes(board, 0, 1)[1], 1);
+    same("row's place", berth_board_row_bytes(board, 5, 0) == board->rows + 1280, 1);
+    same("row's bytes", berth_board_row_bytes(board, 0, 1) == board->rows + 4, 1);
+    same("row's byte", board->rows[5], 1);
     same("no row's bytes", berth_board_row_bytes(board, 1, 0) == NULL, 1);
     same("support", berth_board_support(board, 0, 1, 0).row, 0);
     same("no support", berth_board_support(board, 0, 1, 1).row, 255);
-    same("no column", berth_board_support(board, 5, 1, 0).number, BERTH_COLUMN_OVER_ARITY);
+    same("no column", berth_board_support(board, 5, 1, 0).number, BERTH_NO_SUCH_COLUMN);
     same("rule not in force", berth_board_support(board, 9, 0, 0).number, BERTH_NOT_IN_FORCE);
 }
 
 /* A refusal leaves the value; a buffer of another length is one. */
 static void refuse(struct berth_board *board) {
-    static const uint8_t lift[2] = {5, 5};
+    static const uint8_t lift[2] = {5, 5}, counts[33] = {1};
     struct berth_command_reply reply =
         berth_command(board->value, lift, 2, board->rows, BERTH_ROWS - 1, board->killers, BERTH_KILLERS, board->slots, BERTH_SLOTS);
     same("short rows", reply.number, BERTH_BUFFER_LENGTH);
     same("value", memcmp(&reply.value, &board->value, sizeof reply.value), 0);
     same("body cut short", berth_board_command(board, lift, 1).number, BERTH_BODY_LENGTH);
     same("no byte", berth_board_command(board, lift, 0).number, BERTH_UNKNOWN_KIND);
-    same("size of the reply", (long)sizeof reply, 704);
+    same("too many counts", berth_board_start(board, counts, 33).number, BERTH_BODY_LENGTH);
+    same("no counts", berth_board_start(board, counts, 0).number, BERTH_BAD_COUNTS);
+    same("too many calls", berth_board_head(board, 9, counts, 257).number, BERTH_BODY_LENGTH);
+    same("lift of what is not there", berth_board_lift(board, 9).number, BERTH_NOT_IN_FORCE);
+    same("put without a draft", berth_board_put(board).number, BERTH_NO_DRAFT);
 }
 
-int main(void) {
+/* The sizes that the header says, and the library's own. */
+static void measure(void) {
+    same("version", (long)berth_version(), BERTH_VERSION);
+    same("value's size", (long)berth_value_size(), BERTH_VALUE_SIZE);
+    same("header fits", berth_header_fits(), 1);
+    same("a board's size", (long)sizeof(struct berth_board), 22183);
+    same("size of a command's reply", (long)sizeof(struct berth_command_reply), 704);
+}
+
+/* Every number with its text; berth.rs has to say the same. */
+static void print_texts(void) {
+    for (int number = 0; number < 256; number++)
+        printf("%d %s\n", number, berth_refusal_text((uint8_t)number));
+}
+
+int main(int words, char **word) {
     static struct berth_board board;
+    if (words > 1 && strcmp(word[1], "texts") == 0) {
+        print_texts();
+        return 0;
+    }
+    measure();
+    build();
+    clear(&board);
     make_board(&board);
     ask(&board);
     refuse(&board);

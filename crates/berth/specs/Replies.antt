@@ -3,8 +3,9 @@
 use mathlib.Core.Path.{_≡_}
 use mathlib.Core.List.{List}
 use Prim.Native.Nat.{ℕ, zero, suc, _+_, _*_, _≤_}
+use denote.Ref.{RefT}
 use lib.ListN.{length, take, drop}
-use Rattle.model.specs.declared.value.Value.{Value}
+use Rattle.layout.specs.declared.value.Value.{Value}
 use Rattle.model.specs.declared.answer.Answer.{Answer}
 use Rattle.model.specs.declared.answer.Answer.the-variants as answer
 use Rattle.model.specs.declared.answer.Outcome.{Outcome}
@@ -22,10 +23,10 @@ use Rattle.berth.specs.declared.reply.StateReply.{StateReply}
 use Rattle.berth.specs.declared.reply.RowReply.{RowReply}
 use Rattle.berth.specs.declared.reply.PlaceReply.{PlaceReply}
 use Rattle.berth.specs.declared.reply.SupportReply.{SupportReply}
-use Rattle.model.specs.Ledger.{firstOf}
-use Rattle.model.specs.Representation.{State, stateOf}
 use Rattle.model.specs.Promise.{Promise}
 use Rattle.model.specs.Questions.{rowChecks, RowBytesPromise}
+use Rattle.layout.specs.Memory.{State, memory}
+use Rattle.model.specs.Refusals.{firstOf}
 
 -- a reply hands on an answer that keeps its promise, and nothing else
 pub record Replied {A B : Type 0} (Promised : A → Type 0) (replyTo : A → B) (reply : B) : Type 0 where
@@ -34,8 +35,8 @@ pub record Replied {A B : Type 0} (Promised : A → Type 0) (replyTo : A → B) 
   pub handed : reply ≡ replyTo answer
 
 -- what a command answers and leaves, given the three buffers after it, keeps the entry's promise
-abbrev pub CommandPromise : State → List ℕ → List ℕ → List ℕ → List ℕ → Outcome → Type 0
-CommandPromise before bytes rows killers slots o = Promise before bytes (o .answer) (stateOf (o .value) rows killers slots)
+abbrev pub CommandPromise : State → List ℕ → RefT (List ℕ) → RefT (List ℕ) → RefT (List ℕ) → Outcome → Type 0
+CommandPromise before bytes rows killers slots o = Promise before bytes (o .answer) (memory (o .value) rows killers slots)
 
 -- S, R, T and the value that is left
 abbrev pub commandReplyBy : Answer → Value → CommandReply

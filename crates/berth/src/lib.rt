@@ -1,5 +1,5 @@
 // The board for hosts in C and Rust: the command entry and the five questions under their C names. The value beside the buffers is a plain C struct that
-// goes in and comes back by value; hosts/berth.h says the same for C.
+// goes in and comes back by value; hosts/berth.h says the same for C, and two numbers tell a host whether its header is this library's.
 // Proved: each reply hands on an answer that keeps its promise of the model's specs, on any value and any buffers. Assumed: nothing here; of a host, that a
 // lent pointer reaches as far as its length says, and that no two lent buffers overlap.
 pub mod reply; // the answers as C structs
@@ -10,11 +10,33 @@ use crate::reply::RowReply;
 use crate::reply::SlotsReply;
 use crate::reply::StateReply;
 use crate::reply::SupportReply;
-use model::value::Value;
+use layout::value::Value;
 ghost use mathlib.Core.Path.{_≡_};
-ghost use Rattle.model.specs.Representation.{freshValue, stateOf};
 ghost use Rattle.model.specs.Questions.{SlotsPromise, StatePromise, RowPromise, SupportPromise};
 ghost use Rattle.berth.specs.Replies.{Replied, CommandPromise, commandReply, PlaceReplied, slotsReply, stateReply, rowReply, supportReply};
+ghost use Rattle.layout.specs.Value.{freshValue};
+ghost use Rattle.layout.specs.Memory.{memory};
+ghost use Rattle.berth.specs.Version.{interfaceVersion, valueSize};
+
+// A host compares these two with what its header says. They take and return plain numbers, so that a host of any version can ask.
+const VERSION: u32 = 1;
+
+// The bytes of `Value`: 416 of the heads and 263 of the draft.
+const VALUE_SIZE: usize = 679;
+
+#[no_mangle]
+pub extern "C" fn berth_version() -> u32
+    ensures { λ r. ⌜ r ≡ interfaceVersion ⌝ }
+{
+    VERSION
+}
+
+#[no_mangle]
+pub extern "C" fn berth_value_size() -> usize
+    ensures { λ r. ⌜ r ≡ valueSize ⌝ }
+{
+    VALUE_SIZE
+}
 
 // The value beside the buffers before the first command.
 #[no_mangle]
@@ -33,7 +55,10 @@ pub extern "C" fn berth_command(
     killers: &mut [u8],
     slots: &mut [u8],
 ) -> CommandReply
-    ensures { λ r. ⌜ Replied (CommandPromise (stateOf value (now (rows .entry)) (now (killers .entry)) (now (slots .entry))) (now (bytes .entry)) (now (rows .exit)) (now (killers .exit)) (now (slots .exit))) commandReply r ⌝ }
+    ensures { λ r. ⌜ Replied
+        (CommandPromise (memory value (rows .entry) (killers .entry) (slots .entry)) (now (bytes .entry))
+        (rows .exit) (killers .exit) (slots .exit))
+        commandReply r ⌝ }
 {
     reply::of_outcome(board::command(value, bytes, rows, killers, slots))
 }
@@ -47,7 +72,7 @@ pub extern "C" fn berth_open_slots(
     slots: &[u8],
     call: u8,
 ) -> SlotsReply
-    ensures { λ r. ⌜ Replied (SlotsPromise (stateOf value (now (rows .entry)) (now (killers .entry)) (now (slots .entry))) call) slotsReply r ⌝ }
+    ensures { λ r. ⌜ Replied (SlotsPromise (memory value (rows .entry) (killers .entry) (slots .entry)) call) slotsReply r ⌝ }
 {
     reply::of_open_slots(questions::open_slots(value, rows, killers, slots, call))
 }
@@ -62,7 +87,7 @@ pub extern "C" fn berth_slot_state(
     call: u8,
     slot: u8,
 ) -> StateReply
-    ensures { λ r. ⌜ Replied (StatePromise (stateOf value (now (rows .entry)) (now (killers .entry)) (now (slots .entry))) call slot) stateReply r ⌝ }
+    ensures { λ r. ⌜ Replied (StatePromise (memory value (rows .entry) (killers .entry) (slots .entry)) call slot) stateReply r ⌝ }
 {
     reply::of_slot_state(questions::slot_state(value, rows, killers, slots, call, slot))
 }
@@ -77,7 +102,7 @@ pub extern "C" fn berth_row_state(
     rule: u8,
     row: u8,
 ) -> RowReply
-    ensures { λ r. ⌜ Replied (RowPromise (stateOf value (now (rows .entry)) (now (killers .entry)) (now (slots .entry))) rule row) rowReply r ⌝ }
+    ensures { λ r. ⌜ Replied (RowPromise (memory value (rows .entry) (killers .entry) (slots .entry)) rule row) rowReply r ⌝ }
 {
     reply::of_row_state(questions::row_state(value, rows, killers, slots, rule, row))
 }
@@ -92,7 +117,7 @@ pub extern "C" fn berth_row_place(
     rule: u8,
     row: u8,
 ) -> PlaceReply
-    ensures { λ r. ⌜ PlaceReplied (stateOf value (now (rows .entry)) (now (killers .entry)) (now (slots .entry))) rule row r ⌝ }
+    ensures { λ r. ⌜ PlaceReplied (memory value (rows .entry) (killers .entry) (slots .entry)) rule row r ⌝ }
 {
     let part = questions::row_bytes(value, rows, killers, slots, rule, row);
     reply::of_row_bytes(part.len(), rule, row)
@@ -109,7 +134,9 @@ pub extern "C" fn berth_support(
     column: u8,
     slot: u8,
 ) -> SupportReply
-    ensures { λ r. ⌜ Replied (SupportPromise (stateOf value (now (rows .entry)) (now (killers .entry)) (now (slots .entry))) rule column slot) supportReply r ⌝ }
+    ensures { λ r. ⌜ Replied
+        (SupportPromise (memory value (rows .entry) (killers .entry) (slots .entry)) rule column slot)
+        supportReply r ⌝ }
 {
     reply::of_support(questions::support(value, rows, killers, slots, rule, column, slot))
 }

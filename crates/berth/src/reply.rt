@@ -1,16 +1,16 @@
 // The answers as C structs: a number, 0 where there is an answer, and the answer's values.
+use layout::value::Value;
 use model::answer::Answer;
 use model::answer::OpenSlots;
 use model::answer::Outcome;
 use model::answer::RowState;
 use model::answer::SlotState;
 use model::answer::Support;
-use model::value::Value;
 ghost use mathlib.Core.Path.{_≡_};
 ghost use Rattle.berth.specs.Replies.{commandReply, slotsReply, stateReply, rowReply, supportReply};
-ghost use Rattle.berth.specs.Places.{placeOf};
+ghost use Rattle.berth.specs.Places.{rowPlaceReply};
 
-// What a command changed, document 01's S, R and T, which are 0 where refused; and the value that it leaves beside the buffers.
+// What a command changed: S, R and T (SCOPE 3.7), which are 0 where refused; and the value that it leaves beside the buffers.
 #[repr(C)]
 pub struct CommandReply {
     // slots open before and struck after
@@ -129,7 +129,7 @@ pub fn of_row_state(answer: RowState) -> RowReply
 
 // So many bytes from the row's place on.
 pub fn of_row_bytes(length: usize, rule: u8, row: u8) -> PlaceReply
-    ensures { λ r. ⌜ r ≡ placeOf length rule row ⌝ }
+    ensures { λ r. ⌜ r ≡ rowPlaceReply length rule row ⌝ }
 {
     if length == 0 {
         return PlaceReply {

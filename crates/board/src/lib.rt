@@ -1,10 +1,13 @@
 // THE ENTRIES: any bytes as a command, on any value and any buffers; and the five questions, which the crate questions has.
 // Proved: what the command entry answers and leaves is what specs/Promise.antt of the crate model says; from that alone specs/Lists.antt has demand 3. Assumed: nothing.
+use layout::value::Value;
+use layout::value::bad_lengths;
 use model::answer::Outcome;
 use model::command::Decoded;
 use model::command::Read;
-use model::value::Value;
-use model::value::bad_lengths;
+use model::refusal::BODY_LENGTH;
+use model::refusal::BUFFER_LENGTH;
+use model::refusal::UNKNOWN_KIND;
 pub use questions::open_slots;
 pub use questions::row_bytes;
 pub use questions::row_state;
@@ -12,9 +15,9 @@ pub use questions::slot_state;
 pub use questions::support;
 ghost use mathlib.Core.Path.{_≡_};
 ghost use Rattle.model.specs.Commands.{readAt};
-ghost use Rattle.model.specs.Representation.{stateOf};
 ghost use Rattle.model.specs.Promise.{Promise};
-ghost use Rattle.revise.specs.Bounds.{Sizes};
+ghost use Rattle.layout.specs.Bounds.{Sizes};
+ghost use Rattle.layout.specs.Memory.{memory};
 
 // What was read at the first byte is refused by its form, or obeyed.
 fn obey_read(
@@ -27,25 +30,27 @@ fn obey_read(
 ) -> Outcome
     requires { ⌜ Sizes (now rows) (now killers) (now slots) ⌝ }
     requires { ⌜ decoded ≡ readAt (now bytes) 0 ⌝ }
-    ensures { λ r. ⌜ Promise (stateOf value (now (rows .entry)) (now (killers .entry)) (now (slots .entry))) (now (bytes .entry)) (r .answer) (stateOf (r .value) (now (rows .exit)) (now (killers .exit)) (now (slots .exit))) ⌝ }
+    ensures { λ r. ⌜ Promise
+        (memory value (rows .entry) (killers .entry) (slots .entry)) (now (bytes .entry))
+        (r .answer) (memory (r .value) (rows .exit) (killers .exit) (slots .exit)) ⌝ }
 {
     let read = decoded.read;
     let counts = decoded.counts;
     match read {
         Read::Command(c) => {
             if decoded.next < bytes.len() {
-                Outcome::refused(4, value)
+                Outcome::refused(BODY_LENGTH, value)
             } else {
-                commands::obey(value, c, counts, rows, killers, slots)
+                command_obey::obey(value, c, counts, rows, killers, slots)
             }
         }
         Read::Refused(_, n) => Outcome::refused(n, value),
-        Read::End => Outcome::refused(3, value),
+        Read::End => Outcome::refused(UNKNOWN_KIND, value),
     }
 }
 
-// Refused, and the value and all buffers are as they were; or accepted, and they are those of the board after the command. A buffer of another length than
-// document 01's is refused 1; no byte at all is refused 3, and bytes left over after the command 4.
+// Refused, and the value and all buffers are as they were; or accepted, and they are those of the board after the command. A buffer that does
+// not have its length (SCOPE 2) is refused 1; no byte at all is refused 3, and bytes left over after the command 4.
 pub fn command(
     value: Value,
     bytes: &[u8],
@@ -53,11 +58,13 @@ pub fn command(
     killers: &mut [u8],
     slots: &mut [u8],
 ) -> Outcome
-    ensures { λ r. ⌜ Promise (stateOf value (now (rows .entry)) (now (killers .entry)) (now (slots .entry))) (now (bytes .entry)) (r .answer) (stateOf (r .value) (now (rows .exit)) (now (killers .exit)) (now (slots .exit))) ⌝ }
+    ensures { λ r. ⌜ Promise
+        (memory value (rows .entry) (killers .entry) (slots .entry)) (now (bytes .entry))
+        (r .answer) (memory (r .value) (rows .exit) (killers .exit) (slots .exit)) ⌝ }
 {
     if bad_lengths(rows, killers, slots) {
-        return Outcome::refused(1, value);
+        return Outcome::refused(BUFFER_LENGTH, value);
     }
-    let decoded = decode::decode(bytes, 0);
+    let decoded = command_decode::decode(bytes, 0);
     obey_read(value, decoded, bytes, rows, killers, slots)
 }

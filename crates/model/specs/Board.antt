@@ -1,4 +1,4 @@
--- CALLS, SLOTS, RULES: document 01's section of that name, with no byte of the lent memory in it.
+-- CALLS, SLOTS, RULES (SCOPE 1): what a board is and what its rules ask, with no byte of the lent memory in it.
 use mathlib.Core.Path.{_≡_}
 use mathlib.Core.Bool.{Bool}
 use mathlib.Core.List.{List, []}
@@ -8,20 +8,20 @@ use Prim.Native.Nat.{ℕ, _<_, _≤_}
 use lib.ListN.{length, getD}
 use lib.Dec.{T, ltb}
 
--- "A rule has a number 0 to 63, an arity 1 to 4, that many different calls (its columns 0 to 3), and 0 to 64 different rows, each with a slot per column."
--- Its number is its place among the board's rules, its arity the number of its calls; `GoodRule`, below, has the limits
+-- RULE (SCOPE 1.2): the call of each column, and the rows, each a slot for each column. Its number is its place among the board's rules, its arity the number
+-- of its calls; `GoodRule`, below, has the limits
 pub record Rule : Type 0 where
-  pub calls : List ℕ
+  pub scope : List ℕ
   pub rows : List (List ℕ)
 
--- A board: the slot count of each call, and the rule in force under each number
+-- BOARD (SCOPE 1.1): the slot count of each call, and the rule in force under each number
 pub record Board : Type 0 where
   pub counts : List ℕ
   pub rules : List (Option Rule)
 
 -- the call of column k, and the slot that row w has there; 255 past the last, as in the lent memory
 abbrev pub callAt : Rule → ℕ → ℕ
-callAt r k = getD (r .calls) k 255
+callAt r k = getD (r .scope) k 255
 
 abbrev pub slotAt : Rule → ℕ → ℕ → ℕ
 slotAt r w k = getD (getD (r .rows) w []) k 255
@@ -35,28 +35,28 @@ abbrev pub InForce : Board → ℕ → Rule → Type 0
 InForce B p r = getD (B .rules) p none ≡ some r
 
 -- COLUMN k OF RULE r COUNTS on the board: every column of the rule does. All that a rule asks of its rows' slots goes by this one definition
-unfoldable pub counts? : Board → Rule → ℕ → Bool
-counts? B r k = ltb k (length (r .calls))
+unfoldable pub active? : Board → Rule → ℕ → Bool
+active? B r k = ltb k (length (r .scope))
 
-abbrev pub Counts : Board → Rule → ℕ → Type 0
-Counts B r k = T (counts? B r k)
+abbrev pub Active : Board → Rule → ℕ → Type 0
+Active B r k = T (active? B r k)
 
 -- r is a rule on call c
-pub record OnCall (B : Board) (r : Rule) (c : ℕ) : Type 0 where
+pub record InScope (B : Board) (r : Rule) (c : ℕ) : Type 0 where
   pub column : ℕ
-  pub counts : Counts B r column
+  pub active : Active B r column
   pub call : callAt r column ≡ c
 
 -- slot s of call c stands in row w of r
 pub record Holds (B : Board) (r : Rule) (w c s : ℕ) : Type 0 where
   pub column : ℕ
-  pub counts : Counts B r column
+  pub active : Active B r column
   pub call : callAt r column ≡ c
   pub slot : slotAt r w column ≡ s
 
 -- A SET OF SLOTS is a type for each call and slot. Row w's slots are all in the set A
 abbrev pub Within : Board → (ℕ → ℕ → Type 0) → Rule → ℕ → Type 0
-Within B A r w = (k : ℕ) → Counts B r k → A (callAt r k) (slotAt r w k)
+Within B A r w = (k : ℕ) → Active B r k → A (callAt r k) (slotAt r w k)
 
 -- slot s of call c stands in a row of r whose slots are all in A
 pub record Supported (B : Board) (A : ℕ → ℕ → Type 0) (r : Rule) (c s : ℕ) : Type 0 where
@@ -65,16 +65,16 @@ pub record Supported (B : Board) (A : ℕ → ℕ → Type 0) (r : Rule) (c s : 
   pub holds : Holds B r row c s
   pub within : Within B A r row
 
--- "A set of slots is self-supporting when each slot in it, in every rule in force on its call, stands in a row whose slots are all in the set."
+-- SELF-SUPPORTING (SCOPE 1.5): each member is a slot of the board and has, in every rule in force on its call, a row that holds it and lies inside the set
 pub record SelfSupporting (B : Board) (A : ℕ → ℕ → Type 0) : Type 0 where
   pub slots : (c s : ℕ) → A c s → OnBoard B c s
-  pub support : (c s : ℕ) → A c s → (p : ℕ) (r : Rule) → InForce B p r → OnCall B r c → Supported B A r c s
+  pub support : (c s : ℕ) → A c s → (p : ℕ) (r : Rule) → InForce B p r → InScope B r c → Supported B A r c s
 
 -- the set of the slots that the test f passes
 abbrev pub Passing : (ℕ → ℕ → Bool) → ℕ → ℕ → Type 0
 Passing f c s = T (f c s)
 
--- "The board's open slots are the union of all self-supporting sets." Slot s of call c is in one of them
+-- OPEN (SCOPE 1.6): some self-supporting set, given by a test, has slot s of call c. So these slots are the union of such sets
 pub record Viable (B : Board) (c s : ℕ) : Type 0 where
   pub set : ℕ → ℕ → Bool
   pub self : SelfSupporting B (Passing set)
@@ -86,26 +86,25 @@ pub record ViableInAny (B : Board) (c s : ℕ) : Type 1 where
   pub self : SelfSupporting B set
   pub has : set c s
 
--- "A row is alive when all its slots are open."
+-- ALIVE, DEAD (SCOPE 1.10): row w lives while each of its slots is open
 abbrev pub Alive : Board → Rule → ℕ → Type 0
 Alive B r w = Within B (Viable B) r w
 
 abbrev pub Dead : Board → Rule → ℕ → Type 0
 Dead B r w = Alive B r w → ⊥
 
--- FULL PLAN, a term of document 01: it "gives every call one of its slots so that each rule in force has a row with, in each column, the slot given to
--- that column's call. It uses the slots it gives."
+-- FULL PLAN (SCOPE 1.15), a term of the scope: each call gets a slot of its own, and every rule in force has a row that agrees with the plan in all columns
 pub record FullPlan (B : Board) (plan : ℕ → ℕ) : Type 0 where
   pub gives : (c : ℕ) → c < length (B .counts) → OnBoard B c (plan c)
   pub keeps : (p : ℕ) (r : Rule) → InForce B p r
-      → (w : ℕ) × (w < length (r .rows)) × ((k : ℕ) → Counts B r k → slotAt r w k ≡ plan (callAt r k))
+      → (w : ℕ) × (w < length (r .rows)) × ((k : ℕ) → Active B r k → slotAt r w k ≡ plan (callAt r k))
 
--- "Two rules are the same when their calls agree column by column and their rows agree as sets; number and row order don't count."
+-- SAME RULES (SCOPE 1.16): the same calls in the same columns, and each row of either rule is a row of the other
 abbrev pub RowsIn : Rule → Rule → Type 0
 RowsIn r r′ = (w : ℕ) → w < length (r .rows) → (w′ : ℕ) × (w′ < length (r′ .rows)) × (getD (r .rows) w [] ≡ getD (r′ .rows) w′ [])
 
 pub record Same (r r′ : Rule) : Type 0 where
-  pub calls : r .calls ≡ r′ .calls
+  pub scope : r .scope ≡ r′ .scope
   pub there : RowsIn r r′
   pub back : RowsIn r′ r
 
@@ -116,23 +115,23 @@ pub record SameIn (B : Board) (r : Rule) : Type 0 where
   pub force : InForce B number rule
   pub same : Same r rule
 
--- the same calls and counts, and "at least the same rules": each rule in force on B has a same one on B′
+-- AT LEAST THE SAME RULES (SCOPE 1.17), on the same calls and counts: each rule in force on B is the same as one in force on B′
 pub record AtLeast (B B′ : Board) : Type 0 where
   pub counts : B .counts ≡ B′ .counts
   pub rules : (p : ℕ) (r : Rule) → InForce B p r → SameIn B′ r
 
--- THE SHAPE that every board keeps. A rule has 1 to 4 different calls of the board, and up to 64 different rows with a slot of its call per column
+-- THE SHAPE that every board keeps (SCOPE 1.1, 1.2). A rule has 1 to 4 different calls of the board, and up to 64 different rows with a slot of each call
 pub record GoodRule (counts : List ℕ) (r : Rule) : Type 0 where
-  pub most : length (r .calls) ≤ 4
-  pub least : 0 < length (r .calls)
-  pub calls : (k : ℕ) → k < length (r .calls) → callAt r k < length counts
-  pub apart : (j k : ℕ) → j < k → k < length (r .calls) → callAt r j ≢ callAt r k
+  pub most : length (r .scope) ≤ 4
+  pub least : 0 < length (r .scope)
+  pub scope : (k : ℕ) → k < length (r .scope) → callAt r k < length counts
+  pub apart : (j k : ℕ) → j < k → k < length (r .scope) → callAt r j ≢ callAt r k
   pub few : length (r .rows) ≤ 64
-  pub width : (w : ℕ) → w < length (r .rows) → length (getD (r .rows) w []) ≡ length (r .calls)
-  pub slots : (w k : ℕ) → w < length (r .rows) → k < length (r .calls) → slotAt r w k < getD counts (callAt r k) 0
+  pub width : (w : ℕ) → w < length (r .rows) → length (getD (r .rows) w []) ≡ length (r .scope)
+  pub slots : (w k : ℕ) → w < length (r .rows) → k < length (r .scope) → slotAt r w k < getD counts (callAt r k) 0
   pub rows : (v w : ℕ) → v < w → w < length (r .rows) → getD (r .rows) v [] ≢ getD (r .rows) w []
 
--- "A board has 1 to 32 calls", and a fresh one none; "each has 1 to 32 slots"; rules are numbered 0 to 63
+-- up to 32 calls, a fresh board having none, with 1 to 32 slots each; rules are numbered 0 to 63
 pub record Shape (B : Board) : Type 0 where
   pub calls : length (B .counts) ≤ 32
   pub counts : (c : ℕ) → c < length (B .counts) → (0 < getD (B .counts) c 0) × (getD (B .counts) c 0 ≤ 32)

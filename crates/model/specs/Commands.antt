@@ -1,4 +1,4 @@
--- COMMANDS AS BYTES: what stands at a place of a file of commands. "One byte of kind, then a body whose length the kind fixes."
+-- COMMANDS AS BYTES (SCOPE 3.1 to 3.3): what stands at a place of a file of commands.
 use Prim.Native.Nat.{ℕ, _+_}
 use mathlib.Core.Bool.{Bool, _&&_, cond}
 use mathlib.Core.List.{List, [], _∷_}
@@ -11,13 +11,14 @@ use Rattle.model.specs.declared.command.Command.the-variants as kind
 use Rattle.model.specs.declared.command.Read.{Read}
 use Rattle.model.specs.declared.command.Read.the-variants as found
 use Rattle.model.specs.declared.command.Decoded.{Decoded}
+use Rattle.model.specs.Numbers as refused
 
--- kinds 1 to 5; the length of a kind's body
+-- the kinds that there are, and how many bytes follow the kind's own
 abbrev pub isKind : ℕ → Bool
 isKind k = leb 1 k && leb k 5
 
-abbrev pub bodyLength : ℕ → ℕ
-bodyLength k = cond (eqb k 1) 32 (cond (eqb k 2) 6 (cond (eqb k 3) 4 (cond (eqb k 5) 1 0)))
+abbrev pub bodySize : ℕ → ℕ
+bodySize k = cond (eqb k 1) 32 (cond (eqb k 2) 6 (cond (eqb k 3) 4 (cond (eqb k 5) 1 0)))
 
 -- the bodies of kinds 2 and 3 that begin at b
 abbrev pub headAt : List ℕ → ℕ → Head
@@ -28,8 +29,8 @@ abbrev pub rowAt : List ℕ → ℕ → Row
 rowAt s b = record { slot0 = getD s b 0; slot1 = getD s (b + 1) 0; slot2 = getD s (b + 2) 0; slot3 = getD s (b + 3) 0 }
 
 -- the four calls of a head, the four slots of a row
-abbrev pub callsOf : Head → List ℕ
-callsOf h = h .call0 ∷ h .call1 ∷ h .call2 ∷ h .call3 ∷ []
+abbrev pub scopeOf : Head → List ℕ
+scopeOf h = h .call0 ∷ h .call1 ∷ h .call2 ∷ h .call3 ∷ []
 
 abbrev pub slotsOf : Row → List ℕ
 slotsOf r = r .slot0 ∷ r .slot1 ∷ r .slot2 ∷ r .slot3 ∷ []
@@ -40,15 +41,15 @@ commandAt s k b =
     cond (eqb k 1) kind.Board
     (cond (eqb k 2) (kind.Head (headAt s b))
     (cond (eqb k 3) (kind.Row (rowAt s b))
-    (cond (eqb k 4) kind.Put
-    (kind.Lift (getD s b 0)))))
+    (cond (eqb k 4) kind.Post
+    (kind.Retract (getD s b 0)))))
 
 abbrev pub kindOf : Command → ℕ
 kindOf kind.Board = 1
 kindOf (kind.Head h) = 2
 kindOf (kind.Row r) = 3
-kindOf kind.Put = 4
-kindOf (kind.Lift n) = 5
+kindOf kind.Post = 4
+kindOf (kind.Retract n) = 5
 
 -- the 32 slot counts of a kind 1 whose body begins at b; zeros for every other kind
 abbrev pub countsAt : List ℕ → ℕ → ℕ → List ℕ
@@ -58,18 +59,18 @@ countsAt s k b = cond (eqb k 1) (take 32 (drop b s)) (replicate 32 0)
 abbrev pub without : Read → ℕ → Decoded
 without r at = record { read = r; counts = replicate 32 0; next = at }
 
--- WHAT STANDS AT A PLACE OF A FILE: nothing at its end; refusal 3 where the kind is not 1 to 5, 4 where the body is cut short; else the command,
--- its counts, and the place after its body
+-- WHAT STANDS AT A PLACE OF A FILE: nothing at its end; refusal 3 for an unknown kind, 4 for a body cut short (SCOPE 4.1); else the command, its counts, and
+-- the place after its body
 abbrev pub readAt : List ℕ → ℕ → Decoded
 readAt s at =
     cond (leb (length s) at)
     (without found.End at)
     (cond (isKind (getD s at 0))
-    (cond (leb (at + 1 + bodyLength (getD s at 0)) (length s))
+    (cond (leb (at + 1 + bodySize (getD s at 0)) (length s))
     (record {
       read = found.Command (commandAt s (getD s at 0) (at + 1));
       counts = countsAt s (getD s at 0) (at + 1);
-      next = at + 1 + bodyLength (getD s at 0);
+      next = at + 1 + bodySize (getD s at 0);
     })
-    (without (found.Refused (getD s at 0) 4) at))
-    (without (found.Refused (getD s at 0) 3) at))
+    (without (found.Refused (getD s at 0) refused.bodyLength) at))
+    (without (found.Refused (getD s at 0) refused.unknownKind) at))

@@ -5,7 +5,7 @@ use mathlib.Core.Option.{Option, none, some}
 use Prim.Native.Nat.{ℕ, zero, suc, _+_}
 use lib.ListN.{length, getD}
 use lib.Dec.{eqb}
-use Rattle.model.specs.Board.{Rule, Board, callAt, slotAt, counts?}
+use Rattle.model.specs.Board.{Rule, Board, callAt, slotAt, active?}
 use Rattle.model.specs.Tests.{some?, every?, upFrom, has, keepOnly}
 
 -- `left` has, for each call, the slots that are left of it
@@ -13,14 +13,14 @@ abbrev pub in? : List (List ℕ) → ℕ → ℕ → Bool
 in? left c s = has (getD left c []) s
 
 -- Board.antt's OnCall, Holds, Within and Supported as tests
-abbrev pub onCall? : Board → Rule → ℕ → Bool
-onCall? B r c = some? (length (r .calls)) λ k. counts? B r k && eqb (callAt r k) c
+abbrev pub inScope? : Board → Rule → ℕ → Bool
+inScope? B r c = some? (length (r .scope)) λ k. active? B r k && eqb (callAt r k) c
 
 abbrev pub holds? : Board → Rule → ℕ → ℕ → ℕ → Bool
-holds? B r w c s = some? (length (r .calls)) λ k. counts? B r k && (eqb (callAt r k) c && eqb (slotAt r w k) s)
+holds? B r w c s = some? (length (r .scope)) λ k. active? B r k && (eqb (callAt r k) c && eqb (slotAt r w k) s)
 
 abbrev pub within? : Board → List (List ℕ) → Rule → ℕ → Bool
-within? B left r w = every? (length (r .calls)) λ k. not (counts? B r k) || in? left (callAt r k) (slotAt r w k)
+within? B left r w = every? (length (r .scope)) λ k. not (active? B r k) || in? left (callAt r k) (slotAt r w k)
 
 abbrev pub supported? : Board → List (List ℕ) → Rule → ℕ → ℕ → Bool
 supported? B left r c s = some? (length (r .rows)) λ w. holds? B r w c s && within? B left r w
@@ -28,7 +28,7 @@ supported? B left r c s = some? (length (r .rows)) λ w. holds? B r w c s && wit
 -- a rule, if there is one, is not on the call or supports the slot; every rule in force does so
 abbrev pub admits? : Board → List (List ℕ) → ℕ → ℕ → Option Rule → Bool
 admits? B left c s none = true
-admits? B left c s (some r) = not (onCall? B r c) || supported? B left r c s
+admits? B left c s (some r) = not (inScope? B r c) || supported? B left r c s
 
 abbrev pub all? : (Option Rule → Bool) → List (Option Rule) → Bool
 all? f [] = true
@@ -50,9 +50,9 @@ passes zero B left = left
 passes (suc n) B left = passes n B (pass B left)
 
 -- all slots of the board, and how many they are
-abbrev pub whole : List ℕ → List (List ℕ)
-whole [] = []
-whole (n ∷ ns) = upFrom 0 n ∷ whole ns
+abbrev pub allSlots : List ℕ → List (List ℕ)
+allSlots [] = []
+allSlots (n ∷ ns) = upFrom 0 n ∷ allSlots ns
 
 abbrev pub size : List (List ℕ) → ℕ
 size [] = 0
@@ -60,4 +60,4 @@ size (xs ∷ rest) = length xs + size rest
 
 -- THE OPEN SLOTS of each call: as many passes as there are slots are enough
 abbrev pub openOf : Board → List (List ℕ)
-openOf B = passes (size (whole (B .counts))) B (whole (B .counts))
+openOf B = passes (size (allSlots (B .counts))) B (allSlots (B .counts))

@@ -1,5 +1,6 @@
 -- The theorems over the definitions.
 pub mod Tests
+pub mod Refusals
 pub mod Theory
 pub mod Filter
 pub mod Shapes
@@ -15,3 +16,4 @@ pub mod Reports
 pub mod WrongBoards
 pub mod Entry
 pub mod Questions
+pub mod Search

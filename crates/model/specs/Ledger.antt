@@ -1,7 +1,7 @@
--- THE LEDGER, a term of document 01 ("Whole lists"): a board's rules and counts as the commands alone make them. It is fed each command's bytes and the
--- lengths of what is lent with it, and nothing that the memory records.
+-- THE LEDGER (SCOPE 6.5 to 6.9), a term of the scope: a board's rules and counts as the commands alone make them, from their bytes and from how long the lent
+-- buffers are. No byte of these buffers is read.
 use mathlib.Core.Path.{_≡_}
-use mathlib.Core.Bool.{Bool, true, not, _&&_, _||_, cond}
+use mathlib.Core.Bool.{Bool, true, not, _&&_, _||_}
 use mathlib.Core.List.{List, [], _∷_, _++_}
 use mathlib.Core.Option.{Option, none, some}
 use Prim.Native.Nat.{ℕ, zero, suc, _<_}
@@ -14,14 +14,17 @@ use Rattle.model.specs.declared.command.Read.{Read}
 use Rattle.model.specs.declared.command.Read.the-variants as found
 use Rattle.model.specs.Board.{Rule, Board, callAt, slotAt, GoodRule, Shape}
 use Rattle.model.specs.Tests.{some?, every?, isNone}
-use Rattle.model.specs.Commands.{callsOf, slotsOf, readAt}
+use Rattle.model.specs.Commands.{scopeOf, slotsOf, readAt}
+use Rattle.layout.specs.Sizes.{Lent, badLent?}
+use Rattle.model.specs.Refusals.{firstOf}
+use Rattle.model.specs.Numbers as refused
 
 -- a rule and the number that it is to come into force under
 pub record NumberedRule : Type 0 where
   pub number : ℕ
   pub rule : Rule
 
--- "It holds slot counts, a draft and the rules in force by number, at first none of these."
+-- slot counts and rules by number, which are a board, and a draft; `fresh`, below, has none of them
 pub record Ledger : Type 0 where
   pub board : Board
   pub draft : Option NumberedRule
@@ -39,76 +42,60 @@ pub record LedgerShape (L : Ledger) : Type 0 where
 
 -- the draft; the empty rule under number 255 where there is none
 abbrev pub draftOr : Option NumberedRule → NumberedRule
-draftOr none = record { number = 255; rule = record { calls = []; rows = [] } }
+draftOr none = record { number = 255; rule = record { scope = []; rows = [] } }
 draftOr (some d) = d
 
--- THE REFUSAL TABLE ("Where each thing is checked"): conditions with their numbers, in the table's order. The first that holds gives the refusal, and 0
--- says that none does
-abbrev pub firstOf : List (Bool × ℕ) → ℕ
-firstOf [] = 0
-firstOf (x ∷ xs) = cond (x .0) (x .1) (firstOf xs)
-
--- the lengths of what is lent
-pub record Lent : Type 0 where
-  pub rows : ℕ
-  pub killers : ℕ
-  pub slots : ℕ
-
--- "1 a buffer isn't of its length"
-abbrev pub badLent : Lent → Bool
-badLent lent = not (eqb (lent .rows) 16384 && eqb (lent .killers) 4096 && eqb (lent .slots) 1024)
-
 abbrev pub lentConditions : Lent → List (Bool × ℕ)
-lentConditions lent = (badLent lent, 1) ∷ []
+lentConditions lent = (badLent? lent, refused.bufferLength) ∷ []
 
--- "5 first count 0, a count over 32, or a nonzero after a 0"
-abbrev pub badCounts : List ℕ → Bool
-badCounts ns =
+-- 5: there is no first call, a count is above 32, or after a 0 comes another number
+abbrev pub badCounts? : List ℕ → Bool
+badCounts? ns =
     eqb (getD ns 0 0) 0 || some? (length ns) (λ i. ltb 32 (getD ns i 0))
     || some? (length ns) (λ j. not (eqb (getD ns j 0) 0) && some? j (λ i. eqb (getD ns i 0) 0))
 
--- "11 spare field not 255": a field past the arity a
-abbrev pub badSpare : ℕ → List ℕ → Bool
-badSpare a xs = some? 4 λ k. leb a k && not (eqb (getD xs k 255) 255)
+-- 11: one of four fields, past the arity a, is not 255
+abbrev pub badSpare? : ℕ → List ℕ → Bool
+badSpare? a xs = some? 4 λ k. leb a k && not (eqb (getD xs k 255) 255)
 
--- "6 no board"; "7 number over 63"; "17 number not in force"
-abbrev pub noBoard : Ledger → Bool
-noBoard L = eqb (length (L .board .counts)) 0
+-- 6: there is no call; 7: no rule can have the number; 17: none that is in force has it
+abbrev pub noBoard? : Ledger → Bool
+noBoard? L = eqb (length (L .board .counts)) 0
 
-abbrev pub badNumber : ℕ → Bool
-badNumber n = ltb 63 n
+abbrev pub badNumber? : ℕ → Bool
+badNumber? n = ltb 63 n
 
-abbrev pub notInForce : Ledger → ℕ → Bool
-notInForce L n = isNone (getD (L .board .rules) n none)
+abbrev pub notInForce? : Ledger → ℕ → Bool
+notInForce? L n = isNone (getD (L .board .rules) n none)
 
--- each kind's own conditions. ns are the 32 counts that stand beside a kind 1
+-- each kind's own conditions, in the order of SCOPE 4.3. ns are the 32 counts that stand beside a kind 1
 abbrev pub kindConditions : Ledger → Command → List ℕ → List (Bool × ℕ)
-kindConditions L kind.Board ns = (badCounts ns, 5) ∷ []
+kindConditions L kind.Board ns = (badCounts? ns, refused.badCounts) ∷ []
 kindConditions L (kind.Head h) ns =
-    (noBoard L, 6)
-    ∷ (badNumber (h .number), 7)
-    ∷ (ltb (h .arity) 1 || ltb 4 (h .arity), 8)
-    ∷ (some? (h .arity) (λ k. leb (length (L .board .counts)) (getD (callsOf h) k 255)), 9)
-    ∷ (some? (h .arity) (λ k. some? k (λ j. eqb (getD (callsOf h) j 255) (getD (callsOf h) k 255))), 10)
-    ∷ (badSpare (h .arity) (callsOf h), 11)
+    (noBoard? L, refused.noBoard)
+    ∷ (badNumber? (h .number), refused.badNumber)
+    ∷ (ltb (h .arity) 1 || ltb 4 (h .arity), refused.badArity)
+    ∷ (some? (h .arity) (λ k. leb (length (L .board .counts)) (getD (scopeOf h) k 255)), refused.callOffBoard)
+    ∷ (some? (h .arity) (λ k. some? k (λ j. eqb (getD (scopeOf h) j 255) (getD (scopeOf h) k 255))), refused.callTwice)
+    ∷ (badSpare? (h .arity) (scopeOf h), refused.spareField)
     ∷ []
 kindConditions L (kind.Row w) ns =
     let r = draftOr (L .draft) .rule in
-    (noBoard L, 6)
-    ∷ (isNone (L .draft), 12)
-    ∷ (leb 64 (length (r .rows)), 13)
-    ∷ (some? (length (r .calls)) (λ k. leb (getD (L .board .counts) (callAt r k) 0) (getD (slotsOf w) k 255)), 14)
-    ∷ (badSpare (length (r .calls)) (slotsOf w), 11)
-    ∷ (some? (length (r .rows)) (λ v. every? (length (r .calls)) (λ k. eqb (slotAt r v k) (getD (slotsOf w) k 255))), 15)
+    (noBoard? L, refused.noBoard)
+    ∷ (isNone (L .draft), refused.noDraft)
+    ∷ (leb 64 (length (r .rows)), refused.draftFull)
+    ∷ (some? (length (r .scope)) (λ k. leb (getD (L .board .counts) (callAt r k) 0) (getD (slotsOf w) k 255)), refused.slotOffCall)
+    ∷ (badSpare? (length (r .scope)) (slotsOf w), refused.spareField)
+    ∷ (some? (length (r .rows)) (λ v. every? (length (r .scope)) (λ k. eqb (slotAt r v k) (getD (slotsOf w) k 255))), refused.rowTwice)
     ∷ []
-kindConditions L kind.Put ns = (noBoard L, 6) ∷ (isNone (L .draft), 12) ∷ (not (notInForce L (draftOr (L .draft) .number)), 16) ∷ []
-kindConditions L (kind.Lift n) ns = (noBoard L, 6) ∷ (badNumber n, 7) ∷ (notInForce L n, 17) ∷ []
+kindConditions L kind.Post ns = (noBoard? L, refused.noBoard) ∷ (isNone (L .draft), refused.noDraft) ∷ (not (notInForce? L (draftOr (L .draft) .number)), refused.inForce) ∷ []
+kindConditions L (kind.Retract n) ns = (noBoard? L, refused.noBoard) ∷ (badNumber? n, refused.badNumber) ∷ (notInForce? L n, refused.notInForce) ∷ []
 
--- those of a command's bytes: "3 kind not 1 to 5", no byte at all among them; "4 body cut short", bytes left over among them
+-- 3 and 4 of a command's bytes: 3 also where there is no byte at all, 4 also where bytes are left over
 abbrev pub formConditions : Read → Bool → List (Bool × ℕ)
-formConditions (found.Command c) leftOver = (leftOver, 4) ∷ []
+formConditions (found.Command c) leftOver = (leftOver, refused.bodyLength) ∷ []
 formConditions (found.Refused k n) leftOver = (true, n) ∷ []
-formConditions found.End leftOver = (true, 3) ∷ []
+formConditions found.End leftOver = (true, refused.unknownKind) ∷ []
 
 abbrev pub ownConditions : Ledger → Read → List ℕ → List (Bool × ℕ)
 ownConditions L (found.Command c) ns = kindConditions L c ns
@@ -136,33 +123,33 @@ upToZero (suc n ∷ ns) = suc n ∷ upToZero ns
 abbrev pub withRule : Board → ℕ → Option Rule → Board
 withRule B p r = record { counts = B .counts; rules = set (B .rules) p r }
 
--- "kind 1 sets the counts and clears the rest; kind 2 makes its head, without rows, the draft; kind 3 adds its row at the draft's end; kind 4 brings the
--- draft into force under its number and leaves none; kind 5 takes the rule of that number out of force"
+-- WHAT AN ACCEPTED COMMAND DOES (SCOPE 6.7): kind 1 leaves nothing but its counts, kind 2 begins a draft, kind 3 lengthens it by a row, kind 4 makes it a rule
+-- in force, kind 5 takes such a rule away
 abbrev pub effect : Ledger → Command → List ℕ → Ledger
 effect L kind.Board ns = record { board = bare (upToZero ns); draft = none }
 effect L (kind.Head h) ns =
-    record { board = L .board; draft = some (record { number = h .number; rule = record { calls = take (h .arity) (callsOf h); rows = [] } }) }
+    record { board = L .board; draft = some (record { number = h .number; rule = record { scope = take (h .arity) (scopeOf h); rows = [] } }) }
 effect L (kind.Row w) ns =
     let d = draftOr (L .draft) in
     let r = d .rule in
     record {
       board = L .board;
-      draft = some (record { number = d .number; rule = record { calls = r .calls; rows = r .rows ++ (take (length (r .calls)) (slotsOf w) ∷ []) } });
+      draft = some (record { number = d .number; rule = record { scope = r .scope; rows = r .rows ++ (take (length (r .scope)) (slotsOf w) ∷ []) } });
     }
-effect L kind.Put ns = let d = draftOr (L .draft) in record { board = withRule (L .board) (d .number) (some (d .rule)); draft = none }
-effect L (kind.Lift n) ns = record { board = withRule (L .board) n none; draft = L .draft }
+effect L kind.Post ns = let d = draftOr (L .draft) in record { board = withRule (L .board) (d .number) (some (d .rule)); draft = none }
+effect L (kind.Retract n) ns = record { board = withRule (L .board) n none; draft = L .draft }
 
 abbrev pub readEffect : Ledger → Read → List ℕ → Ledger
 readEffect L (found.Command c) ns = effect L c ns
 readEffect L (found.Refused k n) ns = L
 readEffect L found.End ns = L
 
--- "A command leaves it alone when one of that command's conditions holds"
+-- a command that is refused, under any number but 0, does nothing (SCOPE 6.6)
 abbrev pub obey : ℕ → Ledger → Read → List ℕ → Ledger
 obey zero L r ns = readEffect L r ns
 obey (suc n) L r ns = L
 
--- THE LEDGER'S STEP, fed a command's bytes and the lengths of what is lent with it
+-- THE LEDGER'S STEP, by a command's bytes and the lengths lent (SCOPE 6.6, 6.7)
 abbrev pub step : Ledger → Lent → List ℕ → Ledger
 step L lent bytes = obey (refusal L lent bytes) L (readAt bytes 0 .read) (readAt bytes 0 .counts)
 

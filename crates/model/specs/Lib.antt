@@ -1,6 +1,10 @@
 pub mod Board
 pub mod Records
+pub mod Changes
+pub mod Joined
 pub mod Tests
+pub mod Numbers
+pub mod Refusals
 pub mod Commands
 pub mod Ledger
 pub mod Filter
@@ -11,4 +15,5 @@ pub mod Questions
 pub mod Sheet
 pub mod Lists
 pub mod Samples
+pub mod WrongBoards
 pub mod Laws

@@ -1,4 +1,4 @@
--- WHOLE LISTS: document 01's section of that name, and demand 3.
+-- WHOLE LISTS AND DEMAND 3 (SCOPE 6).
 use mathlib.Core.Path.{_≡_}
 use mathlib.Core.Bool.{cond}
 use mathlib.Core.List.{List, [], _∷_}
@@ -10,22 +10,22 @@ use Rattle.model.specs.declared.answer.Answer.{Answer}
 use Rattle.model.specs.Board.{Rule, Board, InForce, Viable, Alive, Dead, FullPlan, AtLeast}
 use Rattle.model.specs.Records.{Open, Struck, Caused, KillerIn, NoRing, EscapeFromAll}
 use Rattle.model.specs.Ledger.{Member}
-use Rattle.model.specs.Report.{markOf}
-use Rattle.model.specs.Representation.{State, lentOf, killerOf}
 use Rattle.model.specs.Promise.{Promise}
+use Rattle.layout.specs.Places.{causeOf, killerOf}
+use Rattle.layout.specs.Memory.{State, lentOf}
 
 -- A LIST OF MEMBERS TAKES ONE STATE TO ANOTHER, step by step, over any states, members and steps
 pub data Runs (S M : Type 0) (Step : M → S → S → Type 0) : S → List M → S → Type 0 where
   done : {s : S} → Runs S M Step s [] s
   then : {s s′ s″ : S} {m : M} {ms : List M} → Step m s s′ → Runs S M Step s′ ms s″ → Runs S M Step s (m ∷ ms) s″
 
--- what stands after a command that was handed a buffer and left it so: a buffer of another length was not the one that stands
+-- what stands after a command that was handed a buffer and left it so: a buffer of another length was not the one that stands (SCOPE 6.3)
 abbrev pub standing : List ℕ → List ℕ → List ℕ → List ℕ
 standing own handed left = cond (eqb (length handed) (length own)) left own
 
--- ONE COMMAND OF A LIST, by the entry's promise. "Each command gets the value beside the buffers, and the buffers that commands write, as the last one left
--- them"; a member says which lengths are lent, and a buffer of another length may hold anything
-pub record Turn (m : Member) (s s′ : State) : Type 0 where
+-- ONE COMMAND OF A LIST IS ENTERED, by the entry's promise (SCOPE 6.2, 6.3). It is handed the value as it stands, and each buffer too if its length is right; a member
+-- says which lengths are lent, and a buffer of another length may hold anything
+pub record Entered (m : Member) (s s′ : State) : Type 0 where
   pub handed : State
   pub left : State
   pub given : Answer
@@ -45,19 +45,19 @@ pub record Turn (m : Member) (s s′ : State) : Type 0 where
 
 -- WHAT DEMAND 3 SAYS OF ONE LIST, over the ledger's board and the bytes after it
 pub record Demand3 (B : Board) (s : State) : Type 0 where
-  -- "no struck slots blame each other in a ring", in both of document 01's wordings
-  pub ring : NoRing B (markOf (s .slots)) (killerOf (s .killers))
-  pub escape : EscapeFromAll B (markOf (s .slots)) (killerOf (s .killers))
-  -- "no full plan uses a struck slot"
-  pub plan : (plan : ℕ → ℕ) → FullPlan B plan → (c : ℕ) → c < length (B .counts) → Struck B (markOf (s .slots)) c (plan c) → ⊥
-  -- "each struck slot's cause is a rule in force on its call"
-  pub cause : (c t : ℕ) → Struck B (markOf (s .slots)) c t → Caused B (markOf (s .slots)) c t
-  -- "each dead row's killer the column of a struck slot in it"; a living row has none
+  -- SCOPE 6.12: no ring, in the words of 1.13 and in those of 1.14
+  pub ring : NoRing B (causeOf (s .slots)) (killerOf (s .killers))
+  pub escape : EscapeFromAll B (causeOf (s .slots)) (killerOf (s .killers))
+  -- SCOPE 6.13: the slot that a full plan gives a call is not struck
+  pub plan : (plan : ℕ → ℕ) → FullPlan B plan → (c : ℕ) → c < length (B .counts) → Struck B (causeOf (s .slots)) c (plan c) → ⊥
+  -- SCOPE 6.15: causes are what 1.12 says
+  pub cause : (c t : ℕ) → Struck B (causeOf (s .slots)) c t → Caused B (causeOf (s .slots)) c t
+  -- SCOPE 6.15: killers are what 1.11 says, and a living row has none
   pub killer : (p : ℕ) (r : Rule) → InForce B p r → (w : ℕ) → w < length (r .rows)
-      → ((killerOf (s .killers) p w ≡ 255) × Alive B r w) ⊎ (KillerIn B (killerOf (s .killers)) (Struck B (markOf (s .slots))) r p w × Dead B r w)
-  -- demand 2 after the list: open is viable
-  pub viable : (c t : ℕ) → Open B (markOf (s .slots)) c t ↔ Viable B c t
+      → ((killerOf (s .killers) p w ≡ 255) × Alive B r w) ⊎ (KillerIn B (killerOf (s .killers)) (Struck B (causeOf (s .slots))) r p w × Dead B r w)
+  -- demand 2 after the list (SCOPE 6.11): the bytes say open exactly where the definition does
+  pub viable : (c t : ℕ) → Open B (causeOf (s .slots)) c t ↔ Viable B c t
 
--- AND OF TWO LISTS: they "end with the same calls and counts, the second with at least the same rules; whatever is open after the second is open after the first"
+-- AND OF TWO LISTS (SCOPE 6.14): with the same calls and counts, and at least the same rules after the second, each slot open after it is open after the first
 abbrev pub Demand3Two : Board → State → Board → State → Type 0
-Demand3Two B s B′ s′ = AtLeast B B′ → (c t : ℕ) → Open B′ (markOf (s′ .slots)) c t → Open B (markOf (s .slots)) c t
+Demand3Two B s B′ s′ = AtLeast B B′ → (c t : ℕ) → Open B′ (causeOf (s′ .slots)) c t → Open B (causeOf (s .slots)) c t

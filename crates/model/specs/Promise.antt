@@ -1,9 +1,9 @@
--- WHAT THE COMMAND ENTRY PROMISES, over the state before, the command's bytes, the answer and the state after. The lengths lent are those of the state
--- before. The entry's `ensures` cites this record and nothing else.
+-- WHAT THE COMMAND ENTRY PROMISES (SCOPE 6.10, 10.1), over the state before, the command's bytes, the answer and the state after. The lengths lent are those
+-- of the state before. The entry's `ensures` cites this record and nothing else.
 use mathlib.Core.Path.{_≡_}
 use mathlib.Core.List.{List, [], _∷_}
 use Prim.Native.Nat.{ℕ, zero, suc}
-use Rattle.model.specs.declared.value.Value.{Value}
+use Rattle.layout.specs.declared.value.Value.{Value}
 use Rattle.model.specs.declared.answer.Report.{Report}
 use Rattle.model.specs.declared.answer.Answer.{Answer}
 use Rattle.model.specs.declared.answer.Answer.the-variants as answer
@@ -13,11 +13,13 @@ use Rattle.model.specs.declared.command.Command.the-variants as kind
 use Rattle.model.specs.declared.command.Read.{Read}
 use Rattle.model.specs.declared.command.Read.the-variants as found
 use Rattle.model.specs.Commands.{readAt}
-use Rattle.model.specs.Ledger.{Ledger, LedgerShape, fresh, firstOf, earlyConditions, kindConditions, refusal, effect, obey, step}
+use Rattle.model.specs.Ledger.{Ledger, LedgerShape, fresh, earlyConditions, kindConditions, refusal, effect, obey, step}
 use Rattle.model.specs.Report.{Reports}
-use Rattle.model.specs.Representation.{State, lentOf, Represents}
+use Rattle.model.specs.Representation.{Represents}
+use Rattle.layout.specs.Memory.{State, lentOf}
+use Rattle.model.specs.Refusals.{firstOf}
 
--- AN ANSWER'S NUMBER AND VALUES: 0 with S, R, T for an accepted command; a refusal "returns only its number"
+-- AN ANSWER'S NUMBER AND VALUES (SCOPE 10.5): 0 with S, R, T for an accepted command; of a refusal the number, and no values (4.2)
 abbrev pub numberOf : Answer → ℕ
 numberOf (answer.Accepted r) = 0
 numberOf (answer.Refused n) = n
@@ -47,21 +49,23 @@ ReportsOf (found.Command c) before after r = Reports c before after r
 ReportsOf (found.Refused k n) before after r = ⊥
 ReportsOf found.End before after r = ⊥
 
--- on a state that is the ledger L's: the first condition of the table decides, the report is right, and the state after is the stepped ledger's
-pub record Answered (L : Ledger) (before : State) (bytes : List ℕ) (given : Answer) (after : State) : Type 0 where
+-- A DECISION, by the number of the first condition that holds, or 0: the answer's number and values, the report where it is 0, and whose the state after is
+pub record Decided (n : ℕ) (Reported : Report → Type 0) (L : Ledger) (given : Answer) (after : State) : Type 0 where
   pub report : Report
-  pub number : numberOf given ≡ refusal L (lentOf before) bytes
-  pub values : valuesOf given ≡ valuesAt (refusal L (lentOf before) bytes) (reportValues report)
-  pub reported : refusal L (lentOf before) bytes ≡ 0 → ReportsOf (readAt bytes 0 .read) (before .slots) (after .slots) report
-  pub represents : Represents (step L (lentOf before) bytes) after
+  pub number : numberOf given ≡ n
+  pub values : valuesOf given ≡ valuesAt n (reportValues report)
+  pub reported : n ≡ 0 → Reported report
+  pub represents : Represents L after
+
+-- on a state that is the ledger L's: the first condition of the whole table decides, and the state after is the stepped ledger's
+abbrev pub Answered : Ledger → State → List ℕ → Answer → State → Type 0
+Answered L before bytes given after =
+    Decided (refusal L (lentOf before) bytes) (ReportsOf (readAt bytes 0 .read) (before .slots) (after .slots)) (step L (lentOf before) bytes) given after
 
 -- the same of a command that has been read, with the kind's own conditions: what the functions under the entry promise
-pub record Obeyed (L : Ledger) (before : State) (c : Command) (ns : List ℕ) (given : Answer) (after : State) : Type 0 where
-  pub report : Report
-  pub number : numberOf given ≡ firstOf (kindConditions L c ns)
-  pub values : valuesOf given ≡ valuesAt (firstOf (kindConditions L c ns)) (reportValues report)
-  pub reported : firstOf (kindConditions L c ns) ≡ 0 → Reports c (before .slots) (after .slots) report
-  pub represents : Represents (obey (firstOf (kindConditions L c ns)) L (found.Command c) ns) after
+abbrev pub Obeyed : Ledger → State → Command → List ℕ → Answer → State → Type 0
+Obeyed L before c ns given after =
+    Decided (firstOf (kindConditions L c ns)) (Reports c (before .slots) (after .slots)) (obey (firstOf (kindConditions L c ns)) L (found.Command c) ns) given after
 
 pub record KindPromise (before : State) (c : Command) (ns : List ℕ) (given : Answer) (after : State) : Type 0 where
   pub refused : (n : ℕ) → given ≡ answer.Refused n → after ≡ before
@@ -74,9 +78,9 @@ pub record BoardMade (ns : List ℕ) (given : Answer) (after : State) : Type 0 w
   pub represents : firstOf (kindConditions fresh kind.Board ns) ≡ 0 → Represents (effect fresh kind.Board ns) after
 
 pub record Promise (before : State) (bytes : List ℕ) (given : Answer) (after : State) : Type 0 where
-  -- WHATEVER THE MEMORY HOLDS: 1, 3 and 4 are given on their conditions
+  -- WHATEVER THE MEMORY HOLDS (SCOPE 2.7): 1, 3 and 4 are given on their conditions
   pub early : (n : ℕ) → firstOf (earlyConditions (lentOf before) bytes) ≡ suc n → numberOf given ≡ suc n
-  -- "A refusal changes no byte of the buffers and nothing of the value beside them"
+  -- a refusal leaves value and buffers as they were (SCOPE 4.2)
   pub refused : (n : ℕ) → given ≡ answer.Refused n → after ≡ before
   -- a kind 1 does the same on every memory
   pub made : firstOf (earlyConditions (lentOf before) bytes) ≡ 0 → readAt bytes 0 .read ≡ found.Command kind.Board

@@ -1,12 +1,12 @@
--- THE QUESTIONS (document 01's section of that name). Each has an equation that holds whatever the memory holds, read off the value and the bytes, and says
--- what its answer means on a state that is a ledger's; Laws.Questions proves that the second follows from the first.
+-- THE QUESTIONS (SCOPE 5). Each has an equation that holds whatever the memory holds, read off the value and the bytes, and says what its answer means on a
+-- state that is a ledger's; Laws.Questions proves that the second follows from the first.
 use mathlib.Core.Path.{_≡_}
 use mathlib.Core.Bool.{Bool, _&&_, cond}
 use mathlib.Core.List.{List, [], _∷_, _++_}
-use Prim.Native.Nat.{ℕ, zero, suc, _+_, _*_, _^_, _<_, min}
+use Prim.Native.Nat.{ℕ, zero, suc, _+_, _*_, _^_, _<_}
 use lib.ListN.{length, getD, take, drop}
 use lib.Dec.{eqb, ltb, leb}
-use Rattle.model.specs.declared.value.Heads.{Heads}
+use Rattle.layout.specs.declared.value.Heads.{Heads}
 use Rattle.model.specs.declared.answer.OpenSlots.{OpenSlots}
 use Rattle.model.specs.declared.answer.OpenSlots.the-variants as slots
 use Rattle.model.specs.declared.answer.SlotState.{SlotState}
@@ -15,67 +15,66 @@ use Rattle.model.specs.declared.answer.RowState.{RowState}
 use Rattle.model.specs.declared.answer.RowState.the-variants as row
 use Rattle.model.specs.declared.answer.Support.{Support}
 use Rattle.model.specs.declared.answer.Support.the-variants as support
-use Rattle.model.specs.Board.{Rule, Board, callAt, slotAt, InForce, Counts, OnCall, Viable, Alive}
-use Rattle.model.specs.Tests.{count, first}
-use Rattle.model.specs.Ledger.{Ledger, LedgerShape, Lent, firstOf, lentConditions, noBoard, badNumber, notInForce}
-use Rattle.model.specs.Report.{markOf, open?}
+use Rattle.model.specs.Board.{Rule, Board, callAt, slotAt, InForce, Active, InScope, Viable, Alive}
+use Rattle.model.specs.Tests.{countBelow, first}
+use Rattle.model.specs.Ledger.{Ledger, LedgerShape, lentConditions, noBoard?, badNumber?, notInForce?}
+use Rattle.model.specs.Report.{open?}
 use Rattle.model.specs.Promise.{valuesAt}
-use Rattle.model.specs.Representation.{State, lentOf, killerOf, noCalls, Represents, ruleAt}
+use Rattle.model.specs.Representation.{noCalls?, Represents, ruleAt}
+use Rattle.layout.specs.Places.{causeOf, columnsOf, killerOf, rowsOf}
+use Rattle.layout.specs.Memory.{State, lentOf}
+use Rattle.layout.specs.Sizes.{Lent}
+use Rattle.model.specs.Refusals.{firstOf}
+use Rattle.model.specs.Numbers as refused
 
--- THE REFUSALS, off a ledger, in the table's order: "6 no board", "7 number over 63", "17 number not in force", "18 no such call", "19 no such slot",
--- "20 row number not below the row count", "21 column not below arity"
+-- THE REFUSALS, off a ledger, in the order of SCOPE 4.3: 1 and 6 of every question; then 18 of a call and 19 of its slot, or 7 and 17 of a rule and 20 of its
+-- row, or 21 of its column
 abbrev pub boardConditions : Ledger → Lent → List (Bool × ℕ)
-boardConditions L lent = lentConditions lent ++ ((noBoard L, 6) ∷ [])
+boardConditions L lent = lentConditions lent ++ ((noBoard? L, refused.noBoard) ∷ [])
 
 abbrev pub callConditions : Ledger → Lent → ℕ → List (Bool × ℕ)
-callConditions L lent c = boardConditions L lent ++ ((leb (length (L .board .counts)) c, 18) ∷ [])
+callConditions L lent c = boardConditions L lent ++ ((leb (length (L .board .counts)) c, refused.noCall) ∷ [])
 
 abbrev pub slotConditions : Ledger → Lent → ℕ → ℕ → List (Bool × ℕ)
-slotConditions L lent c t = callConditions L lent c ++ ((leb (getD (L .board .counts) c 0) t, 19) ∷ [])
+slotConditions L lent c t = callConditions L lent c ++ ((leb (getD (L .board .counts) c 0) t, refused.noSlot) ∷ [])
 
 abbrev pub ruleConditions : Ledger → Lent → ℕ → List (Bool × ℕ)
-ruleConditions L lent p = boardConditions L lent ++ ((badNumber p, 7) ∷ (notInForce L p, 17) ∷ [])
+ruleConditions L lent p = boardConditions L lent ++ ((badNumber? p, refused.badNumber) ∷ (notInForce? L p, refused.notInForce) ∷ [])
 
 abbrev pub rowConditions : Ledger → Lent → ℕ → ℕ → List (Bool × ℕ)
-rowConditions L lent p w = ruleConditions L lent p ++ ((leb (length (ruleAt (L .board) p .rows)) w, 20) ∷ [])
+rowConditions L lent p w = ruleConditions L lent p ++ ((leb (length (ruleAt (L .board) p .rows)) w, refused.noRow) ∷ [])
 
--- "Support thus checks 1, 6, 7, 17, 21, 19."
+-- the column, 21, comes before the slot, 19: a slot belongs to the column's call
 abbrev pub supportConditions : Ledger → Lent → ℕ → ℕ → ℕ → List (Bool × ℕ)
 supportConditions L lent p k t =
     let r = ruleAt (L .board) p in
-    ruleConditions L lent p ++ ((leb (length (r .calls)) k, 21) ∷ (leb (getD (L .board .counts) (callAt r k) 0) t, 19) ∷ [])
+    ruleConditions L lent p ++ ((leb (length (r .scope)) k, refused.noColumn) ∷ (leb (getD (L .board .counts) (callAt r k) 0) t, refused.noSlot) ∷ [])
 
--- THE SAME, off the value, whatever it holds. Columns and rows are never more than 4 and 64
+-- THE SAME, off the value, whatever it holds; a call that is not there has no slots
 abbrev pub slotsHeld : Heads → ℕ → ℕ
 slotsHeld h c = getD (h .counts) c 0
 
-abbrev pub columnsHeld : Heads → ℕ → ℕ
-columnsHeld h p = min (getD (h .arity) p 0) 4
-
-abbrev pub rowsHeld : Heads → ℕ → ℕ
-rowsHeld h p = min (getD (h .lengths) p 0) 64
-
 abbrev pub boardChecks : State → List (Bool × ℕ)
-boardChecks s = lentConditions (lentOf s) ++ ((noCalls (s .value .heads .counts), 6) ∷ [])
+boardChecks s = lentConditions (lentOf s) ++ ((noCalls? (s .value .heads .counts), refused.noBoard) ∷ [])
 
 abbrev pub callChecks : State → ℕ → List (Bool × ℕ)
-callChecks s c = boardChecks s ++ ((eqb (slotsHeld (s .value .heads) c) 0, 18) ∷ [])
+callChecks s c = boardChecks s ++ ((eqb (slotsHeld (s .value .heads) c) 0, refused.noCall) ∷ [])
 
 abbrev pub slotChecks : State → ℕ → ℕ → List (Bool × ℕ)
-slotChecks s c t = callChecks s c ++ ((leb (slotsHeld (s .value .heads) c) t, 19) ∷ [])
+slotChecks s c t = callChecks s c ++ ((leb (slotsHeld (s .value .heads) c) t, refused.noSlot) ∷ [])
 
 abbrev pub ruleChecks : State → ℕ → List (Bool × ℕ)
-ruleChecks s p = boardChecks s ++ ((badNumber p, 7) ∷ (eqb (columnsHeld (s .value .heads) p) 0, 17) ∷ [])
+ruleChecks s p = boardChecks s ++ ((badNumber? p, refused.badNumber) ∷ (eqb (columnsOf (s .value .heads .arity) p) 0, refused.notInForce) ∷ [])
 
 abbrev pub rowChecks : State → ℕ → ℕ → List (Bool × ℕ)
-rowChecks s p w = ruleChecks s p ++ ((leb (rowsHeld (s .value .heads) p) w, 20) ∷ [])
+rowChecks s p w = ruleChecks s p ++ ((leb (rowsOf (s .value .heads .lengths) p) w, refused.noRow) ∷ [])
 
 abbrev pub supportChecks : State → ℕ → ℕ → ℕ → List (Bool × ℕ)
 supportChecks s p k t =
     let h = s .value .heads in
-    ruleChecks s p ++ ((leb (columnsHeld h p) k, 21) ∷ (leb (slotsHeld h (getD (h .calls) (4 * p + k) 0)) t, 19) ∷ [])
+    ruleChecks s p ++ ((leb (columnsOf (h .arity) p) k, refused.noColumn) ∷ (leb (slotsHeld h (getD (h .scope) (4 * p + k) 0)) t, refused.noSlot) ∷ [])
 
--- SLOTS OF A CALL: "a 32-bit mask (bit s of weight 2 to the s is set exactly for open slot s), with the number of ones in its mask"
+-- SLOTS OF A CALL (SCOPE 5.1). A mask is the sum of the weights, 2 to the s, of the numbers s below n that pass
 abbrev pub maskOf : ℕ → (ℕ → Bool) → ℕ
 maskOf zero f = 0
 maskOf (suc n) f = maskOf n f + cond (f n) (2 ^ n) 0
@@ -91,7 +90,7 @@ slotsValues (slots.Refused n) = []
 
 -- the answer by its refusal's number
 abbrev pub slotsBy : ℕ → List ℕ → ℕ → OpenSlots
-slotsBy zero bytes c = slots.Mask (maskOf 32 (open? bytes c)) (count 32 (open? bytes c))
+slotsBy zero bytes c = slots.Mask (maskOf 32 (open? bytes c)) (countBelow 32 (open? bytes c))
 slotsBy (suc n) bytes c = slots.Refused (suc n)
 
 abbrev pub slotsAnswer : State → ℕ → OpenSlots
@@ -99,13 +98,13 @@ slotsAnswer s c = slotsBy (firstOf (callChecks s c)) (s .slots) c
 
 pub record SlotsAnswered (L : Ledger) (s : State) (c : ℕ) (given : OpenSlots) : Type 0 where
   pub number : slotsNumber given ≡ firstOf (callConditions L (lentOf s) c)
-  pub values : slotsValues given ≡ valuesAt (firstOf (callConditions L (lentOf s) c)) (maskOf 32 (open? (s .slots) c) ∷ count 32 (open? (s .slots) c) ∷ [])
+  pub values : slotsValues given ≡ valuesAt (firstOf (callConditions L (lentOf s) c)) (maskOf 32 (open? (s .slots) c) ∷ countBelow 32 (open? (s .slots) c) ∷ [])
 
 pub record SlotsPromise (s : State) (c : ℕ) (given : OpenSlots) : Type 0 where
   pub equation : given ≡ slotsAnswer s c
   pub answered : (L : Ledger) → LedgerShape L → Represents L s → SlotsAnswered L s c given
 
--- STATE OF A SLOT: "open, or struck with its cause"
+-- STATE OF A SLOT (SCOPE 5.2): the number of its answer, and the answer off the slot's byte
 abbrev pub stateNumber : SlotState → ℕ
 stateNumber state.Open = 0
 stateNumber (state.Struck n) = 0
@@ -116,12 +115,12 @@ stateBy zero byte = cond (eqb byte 255) state.Open (state.Struck byte)
 stateBy (suc n) byte = state.Refused (suc n)
 
 abbrev pub stateAnswer : State → ℕ → ℕ → SlotState
-stateAnswer s c t = stateBy (firstOf (slotChecks s c t)) (markOf (s .slots) c t)
+stateAnswer s c t = stateBy (firstOf (slotChecks s c t)) (causeOf (s .slots) c t)
 
 -- what it says of the board: open is viable; struck is not, and the cause is the number of a rule in force on the call
 abbrev pub StateMeans : Board → ℕ → ℕ → SlotState → Type 0
 StateMeans B c t state.Open = Viable B c t
-StateMeans B c t (state.Struck n) = (Viable B c t → ⊥) × ((r : Rule) × InForce B n r × OnCall B r c)
+StateMeans B c t (state.Struck n) = (Viable B c t → ⊥) × ((r : Rule) × InForce B n r × InScope B r c)
 StateMeans B c t (state.Refused n) = ⊥
 
 pub record StateAnswered (L : Ledger) (s : State) (c t : ℕ) (given : SlotState) : Type 0 where
@@ -132,7 +131,7 @@ pub record StatePromise (s : State) (c t : ℕ) (given : SlotState) : Type 0 whe
   pub equation : given ≡ stateAnswer s c t
   pub answered : (L : Ledger) → LedgerShape L → Represents L s → StateAnswered L s c t given
 
--- A ROW OF A RULE: "alive, or its killer column"
+-- A ROW OF A RULE (SCOPE 5.3): the number of its answer, and the answer off the row's killer byte
 abbrev pub rowNumber : RowState → ℕ
 rowNumber row.Alive = 0
 rowNumber (row.Killed k) = 0
@@ -148,7 +147,7 @@ rowAnswer s p w = rowBy (firstOf (rowChecks s p w)) (killerOf (s .killers) p w)
 -- what it says of the board: a killer is the column of a slot of the row that is not viable
 abbrev pub RowMeans : Board → Rule → ℕ → RowState → Type 0
 RowMeans B r w row.Alive = Alive B r w
-RowMeans B r w (row.Killed k) = Counts B r k × (Viable B (callAt r k) (slotAt r w k) → ⊥)
+RowMeans B r w (row.Killed k) = Active B r k × (Viable B (callAt r k) (slotAt r w k) → ⊥)
 RowMeans B r w (row.Refused n) = ⊥
 
 pub record RowAnswered (L : Ledger) (s : State) (p w : ℕ) (given : RowState) : Type 0 where
@@ -159,7 +158,7 @@ pub record RowPromise (s : State) (p w : ℕ) (given : RowState) : Type 0 where
   pub equation : given ≡ rowAnswer s p w
   pub answered : (L : Ledger) → LedgerShape L → Represents L s → RowAnswered L s p w given
 
--- THE SAME ROW'S FOUR BYTES, "handed back as a part of the lent row buffer itself; the empty part where the question before refuses"
+-- THAT ROW'S FOUR BYTES (SCOPE 5.4), where they stand in the row buffer that is lent; no bytes where the row's question is refused
 abbrev pub bytesBy : ℕ → List ℕ → ℕ → ℕ → List ℕ
 bytesBy zero rows p w = take 4 (drop (256 * p + 4 * w) rows)
 bytesBy (suc n) rows p w = []
@@ -177,7 +176,7 @@ pub record RowBytesPromise (s : State) (p w : ℕ) (given : List ℕ) : Type 0 w
   pub equation : given ≡ rowBytesAnswer s p w
   pub answered : (L : Ledger) → LedgerShape L → Represents L s → RowBytesAnswered L s p w given
 
--- SUPPORT of a rule, column and slot: "the number of a living row with that slot there, or none"
+-- SUPPORT (SCOPE 5.5): a living row of the rule with the slot in the column, or none. The number of its answer is 0 for both
 abbrev pub supportNumber : Support → ℕ
 supportNumber (support.Row w) = 0
 supportNumber support.Nothing = 0
@@ -197,7 +196,7 @@ supportBy (suc n) m w = support.Refused (suc n)
 
 abbrev pub supportAnswer : State → ℕ → ℕ → ℕ → Support
 supportAnswer s p k t =
-    let m = rowsHeld (s .value .heads) p in
+    let m = rowsOf (s .value .heads .lengths) p in
     supportBy (firstOf (supportChecks s p k t)) m (first m (supports? s p k t))
 
 -- what it says of the board

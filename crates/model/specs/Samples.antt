@@ -1,4 +1,4 @@
--- THE STARRED SAMPLE BOARDS P1 TO P12, as commands' bytes, with what document 01 says of the last one of each.
+-- THE STARRED SAMPLE BOARDS P1 TO P12 (SCOPE 8.1 to 8.12), as commands' bytes, with what is to come of the last command of each.
 use mathlib.Core.List.{List, [], _∷_, _++_, map}
 use mathlib.Core.Logic.{_↔_}
 use mathlib.Core.Path.{_≡_}
@@ -12,8 +12,9 @@ use Rattle.model.specs.Board.{Board, Viable}
 use Rattle.model.specs.Tests.{upFrom}
 use Rattle.model.specs.Filter.{in?, openOf}
 use Rattle.model.specs.Commands.{readAt}
-use Rattle.model.specs.Ledger.{Ledger, Lent, Member, fresh, refusal, step, run}
+use Rattle.model.specs.Ledger.{Ledger, Member, fresh, refusal, step, run}
 use Rattle.model.specs.Report.{struckBy, reopenedBy}
+use Rattle.layout.specs.Sizes.{Lent, killersLength, rowsLength, slotsLength}
 
 -- a command's bytes: fields to the kind's length, the rest 0 or 255
 abbrev pub boardBytes : List ℕ → List ℕ
@@ -23,20 +24,20 @@ abbrev pub spared : List ℕ → List ℕ
 spared fields = fields ++ replicate (4 - length fields) 255
 
 abbrev pub headBytes : ℕ → List ℕ → List ℕ
-headBytes number calls = 2 ∷ number ∷ length calls ∷ spared calls
+headBytes number scope = 2 ∷ number ∷ length scope ∷ spared scope
 
 abbrev pub rowBytes : List ℕ → List ℕ
 rowBytes slots = 3 ∷ spared slots
 
-abbrev pub putBytes : List ℕ
-putBytes = 4 ∷ []
+abbrev pub postBytes : List ℕ
+postBytes = 4 ∷ []
 
-abbrev pub liftBytes : ℕ → List ℕ
-liftBytes number = 5 ∷ number ∷ []
+abbrev pub retractBytes : ℕ → List ℕ
+retractBytes number = 5 ∷ number ∷ []
 
 -- the lengths of what is lent, right
 abbrev pub lengths : Lent
-lengths = record { rows = 16384; killers = 4096; slots = 1024 }
+lengths = record { rows = rowsLength; killers = killersLength; slots = slotsLength }
 
 abbrev pub member : List ℕ → Member
 member bytes = record { bytes = bytes; lent = lengths }
@@ -44,7 +45,7 @@ member bytes = record { bytes = bytes; lent = lengths }
 abbrev pub ledgerOf : List (List ℕ) → Ledger
 ledgerOf commands = run fresh (map member commands)
 
--- what document 01 says of a sample's last command: its refusal or 0, S, R, and the open slots of each call after it
+-- what is to come of a sample's last command: its refusal or 0, S, R, and the open slots of each call after it
 pub record Outcome : Type 0 where
   pub refused : ℕ
   pub struck : ℕ
@@ -98,57 +99,57 @@ p1Before =
     boardBytes (3 ∷ 3 ∷ 2 ∷ []) ∷ headBytes 0 (0 ∷ 1 ∷ []) ∷ rowBytes (0 ∷ 1 ∷ []) ∷ rowBytes (0 ∷ 2 ∷ []) ∷ rowBytes (1 ∷ 2 ∷ []) ∷ []
 
 abbrev pub p2Before : List (List ℕ)
-p2Before = p1Before ++ (putBytes ∷ headBytes 1 (1 ∷ 2 ∷ []) ∷ rowBytes (1 ∷ 0 ∷ []) ∷ rowBytes (0 ∷ 1 ∷ []) ∷ [])
+p2Before = p1Before ++ (postBytes ∷ headBytes 1 (1 ∷ 2 ∷ []) ∷ rowBytes (1 ∷ 0 ∷ []) ∷ rowBytes (0 ∷ 1 ∷ []) ∷ [])
 
 abbrev pub p3Before : List (List ℕ)
-p3Before = p2Before ++ (putBytes ∷ [])
+p3Before = p2Before ++ (postBytes ∷ [])
 
 abbrev pub p1 : Sample
-p1 = record { before = p1Before; last = putBytes; outcome = record { refused = 0; struck = 2; reopened = 0; left = (0 ∷ 1 ∷ []) ∷ (1 ∷ 2 ∷ []) ∷ (0 ∷ 1 ∷ []) ∷ [] } }
+p1 = record { before = p1Before; last = postBytes; outcome = record { refused = 0; struck = 2; reopened = 0; left = (0 ∷ 1 ∷ []) ∷ (1 ∷ 2 ∷ []) ∷ (0 ∷ 1 ∷ []) ∷ [] } }
 
 abbrev pub p2 : Sample
-p2 = record { before = p2Before; last = putBytes; outcome = record { refused = 0; struck = 3; reopened = 0; left = (0 ∷ []) ∷ (1 ∷ []) ∷ (0 ∷ []) ∷ [] } }
+p2 = record { before = p2Before; last = postBytes; outcome = record { refused = 0; struck = 3; reopened = 0; left = (0 ∷ []) ∷ (1 ∷ []) ∷ (0 ∷ []) ∷ [] } }
 
 abbrev pub p3 : Sample
 p3 =
-    record { before = p3Before; last = liftBytes 0; outcome = record { refused = 0; struck = 0; reopened = 4; left = (0 ∷ 1 ∷ 2 ∷ []) ∷ (0 ∷ 1 ∷ []) ∷ (0 ∷ 1 ∷ []) ∷ [] } }
+    record { before = p3Before; last = retractBytes 0; outcome = record { refused = 0; struck = 0; reopened = 4; left = (0 ∷ 1 ∷ 2 ∷ []) ∷ (0 ∷ 1 ∷ []) ∷ (0 ∷ 1 ∷ []) ∷ [] } }
 
--- P4: the worked session, at its second put, its first lift and its second
+-- P4: the worked session (SCOPE 7.9), at its second put, its first lift and its second
 abbrev pub p4Before : List (List ℕ)
 p4Before =
-    boardBytes (2 ∷ 2 ∷ []) ∷ headBytes 0 (0 ∷ 1 ∷ []) ∷ rowBytes (0 ∷ 0 ∷ []) ∷ rowBytes (1 ∷ 1 ∷ []) ∷ putBytes ∷ headBytes 5 (0 ∷ []) ∷ rowBytes (0 ∷ []) ∷ []
+    boardBytes (2 ∷ 2 ∷ []) ∷ headBytes 0 (0 ∷ 1 ∷ []) ∷ rowBytes (0 ∷ 0 ∷ []) ∷ rowBytes (1 ∷ 1 ∷ []) ∷ postBytes ∷ headBytes 5 (0 ∷ []) ∷ rowBytes (0 ∷ []) ∷ []
 
-abbrev pub p4Put : Sample
-p4Put = record { before = p4Before; last = putBytes; outcome = record { refused = 0; struck = 2; reopened = 0; left = (0 ∷ []) ∷ (0 ∷ []) ∷ [] } }
+abbrev pub p4Post : Sample
+p4Post = record { before = p4Before; last = postBytes; outcome = record { refused = 0; struck = 2; reopened = 0; left = (0 ∷ []) ∷ (0 ∷ []) ∷ [] } }
 
-abbrev pub p4Lift : Sample
-p4Lift =
+abbrev pub p4Retract : Sample
+p4Retract =
     record {
-      before = p4Before ++ (putBytes ∷ []);
-      last = liftBytes 5;
+      before = p4Before ++ (postBytes ∷ []);
+      last = retractBytes 5;
       outcome = record { refused = 0; struck = 0; reopened = 2; left = (0 ∷ 1 ∷ []) ∷ (0 ∷ 1 ∷ []) ∷ [] };
     }
 
 abbrev pub p4Again : Sample
 p4Again =
     record {
-      before = p4Before ++ (putBytes ∷ liftBytes 5 ∷ []);
-      last = liftBytes 5;
+      before = p4Before ++ (postBytes ∷ retractBytes 5 ∷ []);
+      last = retractBytes 5;
       outcome = record { refused = 17; struck = 0; reopened = 0; left = (0 ∷ 1 ∷ []) ∷ (0 ∷ 1 ∷ []) ∷ [] };
     }
 
--- P5, P6: "a rule on call 0 alone without rows strikes all of call 0 and nothing of an unjoined call 1; lifting it reopens all"
+-- P5, P6: a rule without rows on one of two calls, which nothing joins; it is put, and lifted
 abbrev pub p5Before : List (List ℕ)
 p5Before = boardBytes (2 ∷ 2 ∷ []) ∷ headBytes 9 (0 ∷ []) ∷ []
 
 abbrev pub p5 : Sample
-p5 = record { before = p5Before; last = putBytes; outcome = record { refused = 0; struck = 2; reopened = 0; left = [] ∷ (0 ∷ 1 ∷ []) ∷ [] } }
+p5 = record { before = p5Before; last = postBytes; outcome = record { refused = 0; struck = 2; reopened = 0; left = [] ∷ (0 ∷ 1 ∷ []) ∷ [] } }
 
 abbrev pub p6 : Sample
 p6 =
     record {
-      before = p5Before ++ (putBytes ∷ []);
-      last = liftBytes 9;
+      before = p5Before ++ (postBytes ∷ []);
+      last = retractBytes 9;
       outcome = record { refused = 0; struck = 0; reopened = 2; left = (0 ∷ 1 ∷ []) ∷ (0 ∷ 1 ∷ []) ∷ [] };
     }
 
@@ -179,7 +180,7 @@ p12 =
 
 -- THE LIST
 abbrev pub samples : List Sample
-samples = p1 ∷ p2 ∷ p3 ∷ p4Put ∷ p4Lift ∷ p4Again ∷ p5 ∷ p6 ∷ p7 ∷ p8 ∷ p9 ∷ p10 ∷ p11 ∷ p12 ∷ []
+samples = p1 ∷ p2 ∷ p3 ∷ p4Post ∷ p4Retract ∷ p4Again ∷ p5 ∷ p6 ∷ p7 ∷ p8 ∷ p9 ∷ p10 ∷ p11 ∷ p12 ∷ []
 
 -- WHAT REFUSES BYTES FOR THEIR FORM: no byte, a kind past 5, bodies cut short, bytes left over
 abbrev pub forms : List (List ℕ)
@@ -189,12 +190,12 @@ abbrev pub formNumbers : List ℕ
 formNumbers = 3 ∷ 3 ∷ 4 ∷ 4 ∷ 4 ∷ []
 
 -- P4's input and output, whole, as bytes
-abbrev pub joined : List (List ℕ) → List ℕ
-joined [] = []
-joined (x ∷ xs) = x ++ joined xs
+abbrev pub flattened : List (List ℕ) → List ℕ
+flattened [] = []
+flattened (x ∷ xs) = x ++ flattened xs
 
 abbrev pub p4Input : List ℕ
-p4Input = joined (p4Before ++ (putBytes ∷ liftBytes 5 ∷ liftBytes 5 ∷ []))
+p4Input = flattened (p4Before ++ (postBytes ∷ retractBytes 5 ∷ retractBytes 5 ∷ []))
 
 -- a 1 0 0, a 2 0 0, a 3 0 0, a 3 0 0, a 4 0 0, a 2 0 0, a 3 0 0, a 4 2 0, a 5 0 2, r 5 17, c 0 0 1, c 1 0 1, end
 abbrev pub p4Output : List ℕ

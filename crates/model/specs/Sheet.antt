@@ -1,4 +1,4 @@
--- THE SHEET: what `berthsheet` writes, from the input's bytes, through the ledger and the open slots ("The sheet program").
+-- THE SHEET (SCOPE 7): what `berthsheet` writes, from the input's bytes, through the ledger and the open slots.
 use mathlib.Core.Bool.{cond}
 use mathlib.Core.List.{List, [], _∷_, _++_}
 use Prim.Native.Nat.{ℕ, zero, suc, _+_, _/_, _%_}
@@ -12,8 +12,10 @@ use Rattle.model.specs.Board.{Board}
 use Rattle.model.specs.Tests.{upFrom, keepOnly}
 use Rattle.model.specs.Filter.{in?, openOf}
 use Rattle.model.specs.Commands.{kindOf, readAt}
-use Rattle.model.specs.Ledger.{Ledger, fresh, firstOf, kindConditions, obey}
+use Rattle.model.specs.Ledger.{Ledger, fresh, kindConditions, obey}
 use Rattle.model.specs.Report.{struckBy, reopenedBy}
+use Rattle.model.specs.Refusals.{firstOf}
+use Rattle.model.specs.Numbers as refused
 
 -- a number in decimal, of at most so many digits; no number here has more than four
 abbrev pub digits : ℕ → ℕ → List ℕ
@@ -32,7 +34,7 @@ spaced (n ∷ ns) = 32 ∷ decimal n ++ spaced ns
 abbrev pub line : ℕ → List ℕ → List ℕ
 line letter ns = letter ∷ spaced ns ++ (10 ∷ [])
 
--- "`a K S R` when accepted, `r K N` when refused"; "a line `c I` per call, followed by a space and number for each open slot, rising"
+-- a line begins with `a` for a command that was accepted and `r` for one refused (SCOPE 7.2), and with `c` for a call (7.6)
 abbrev pub acceptedLine : ℕ → ℕ → ℕ → List ℕ
 acceptedLine k s r = line 97 (k ∷ s ∷ r ∷ [])
 
@@ -42,7 +44,7 @@ refusedLine k n = line 114 (k ∷ n ∷ [])
 abbrev pub callLine : List (List ℕ) → ℕ → List ℕ
 callLine left c = line 99 (c ∷ keepOnly (in? left c) (upFrom 0 32))
 
--- "the last line is always the three letters `end`"
+-- the bytes of `end` (SCOPE 7.7)
 abbrev pub endLine : List ℕ
 endLine = 101 ∷ 110 ∷ 100 ∷ 10 ∷ []
 
@@ -70,7 +72,11 @@ readLine n (found.Command c) B B′ = decisionLine n c B B′
 readLine n (found.Refused k m) B B′ = refusedLine k m
 readLine n found.End B B′ = []
 
--- WHAT A FILE HOLDS: what is read from a place on, to the file's end or the first 3 or 4 ("After 3 or 4 it reads no further"). At most so many commands
+-- the longest input that is read (SCOPE 7.5)
+abbrev pub inputMost : ℕ
+inputMost = 32768
+
+-- WHAT A FILE HOLDS: what is read from a place on, to the file's end or the first 3 or 4 (SCOPE 7.3). At most so many commands
 abbrev pub upToRefusal : Decoded → Read → List Decoded → List Decoded
 upToRefusal d (found.Command c) rest = d ∷ rest
 upToRefusal d (found.Refused k n) rest = d ∷ []
@@ -88,6 +94,6 @@ linesFrom L (d ∷ ds) =
     let L′ = obey n L (d .read) (d .counts) in
     readLine n (d .read) (L .board) (L′ .board) ++ linesFrom L′ ds
 
--- THE WHOLE OUTPUT. "Input too long gives `r 0 2` and no command is run."
+-- THE WHOLE OUTPUT. An input of more than 32,768 bytes is not read at all (SCOPE 7.5)
 abbrev pub sheetOf : List ℕ → List ℕ
-sheetOf input = cond (ltb 32768 (length input)) (refusedLine 0 2) (linesFrom fresh (readsFrom (length input) input 0)) ++ endLine
+sheetOf input = cond (ltb inputMost (length input)) (refusedLine 0 refused.fileLength) (linesFrom fresh (readsFrom (length input) input 0)) ++ endLine

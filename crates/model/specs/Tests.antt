@@ -14,9 +14,9 @@ abbrev pub every? : ℕ → (ℕ → Bool) → Bool
 every? zero f = true
 every? (suc n) f = every? n f && f n
 
-abbrev pub count : ℕ → (ℕ → Bool) → ℕ
-count zero f = 0
-count (suc n) f = count n f + cond (f n) 1 0
+abbrev pub countBelow : ℕ → (ℕ → Bool) → ℕ
+countBelow zero f = 0
+countBelow (suc n) f = countBelow n f + cond (f n) 1 0
 
 -- the first number below n at which f passes; n where there is none
 abbrev pub first : ℕ → (ℕ → Bool) → ℕ

@@ -1,9 +1,9 @@
 // What commands and questions answer.
-use crate::value::Value;
+use layout::value::Value;
 ghost use mathlib.Core.Path.{_≡_};
 ghost use Rattle.model.specs.Promise.{refusedWith, acceptedWith};
 
-// What an accepted command changed: document 01's S, R and T.
+// What an accepted command changed: S, R and T (SCOPE 3.7).
 pub struct Report {
     // slots open before and struck after
     pub struck: usize,

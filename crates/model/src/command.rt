@@ -23,8 +23,10 @@ pub enum Command {
     Board,
     Head(Head),
     Row(Row),
-    Put,
-    Lift(u8),
+    // put, kind 4
+    Post,
+    // lift, kind 5: the rule of this number
+    Retract(u8),
 }
 
 // What stands at a place of a file.

@@ -1,4 +1,3 @@
 pub mod Parts
 pub mod Mask
-pub mod Refusal
-pub mod Answers
+pub mod Laws

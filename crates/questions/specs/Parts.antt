@@ -1,19 +1,38 @@
 -- The state that a question is asked of, and what its functions are handed of it.
 use mathlib.Core.Path.{_≡_}
-use mathlib.Core.List.{List}
+use mathlib.Core.List.{List, []}
 use Prim.Native.Nat.{ℕ, _≤_, _<_}
+use denote.Ref.{RefT, now}
 use lib.ListN.{length}
-use Rattle.model.specs.Representation.{State, stateOf, emptyDraft}
+use Rattle.layout.specs.Value.{emptyDraft}
+use Rattle.layout.specs.Memory.{State, stateOf}
+use Rattle.layout.specs.Sizes.{killersLength, rowsLength}
 
 -- a state of these parts, for a function that is handed only some of them: [] stands for a part that it does not look at, and no question looks at the draft
 abbrev pub stateOfParts : List ℕ → List ℕ → List ℕ → List ℕ → List ℕ → List ℕ → List ℕ → State
-stateOfParts counts arity calls lengths rows killers slots =
-    stateOf (record { heads = record { counts = counts; arity = arity; calls = calls; lengths = lengths }; draft = emptyDraft }) rows killers slots
+stateOfParts counts arity scope lengths rows killers slots =
+    stateOf (record { heads = record { counts = counts; arity = arity; scope = scope; lengths = lengths }; draft = emptyDraft }) rows killers slots
+
+-- the parts that functions are lent: for a call or a slot of it, for a rule, a row of it, a support, and for the search of one
+abbrev pub callParts : RefT (List ℕ) → RefT (List ℕ) → RefT (List ℕ) → RefT (List ℕ) → State
+callParts counts rows killers slots = stateOfParts (now counts) [] [] [] (now rows) (now killers) (now slots)
+
+abbrev pub ruleParts : RefT (List ℕ) → RefT (List ℕ) → RefT (List ℕ) → RefT (List ℕ) → RefT (List ℕ) → State
+ruleParts counts arity rows killers slots = stateOfParts (now counts) (now arity) [] [] (now rows) (now killers) (now slots)
+
+abbrev pub rowParts : RefT (List ℕ) → RefT (List ℕ) → RefT (List ℕ) → RefT (List ℕ) → RefT (List ℕ) → RefT (List ℕ) → State
+rowParts counts arity lengths rows killers slots = stateOfParts (now counts) (now arity) [] (now lengths) (now rows) (now killers) (now slots)
+
+abbrev pub supportParts : RefT (List ℕ) → RefT (List ℕ) → RefT (List ℕ) → RefT (List ℕ) → RefT (List ℕ) → RefT (List ℕ) → State
+supportParts counts arity scope rows killers slots = stateOfParts (now counts) (now arity) (now scope) [] (now rows) (now killers) (now slots)
+
+abbrev pub searchParts : RefT (List ℕ) → RefT (List ℕ) → State
+searchParts rows killers = stateOfParts [] [] [] [] (now rows) (now killers) []
 
 -- WHERE A SEARCH MAY LOOK: the buffers have their lengths, p is a rule's number, m at most its rows and k one of its columns
 pub record Searchable (rows killers : List ℕ) (p m k : ℕ) : Type 0 where
-  pub rows-size : length rows ≡ 16384
-  pub killers-size : length killers ≡ 4096
+  pub rows-size : length rows ≡ rowsLength
+  pub killers-size : length killers ≡ killersLength
   pub number : p < 64
   pub few : m ≤ 64
   pub column : k < 4

@@ -3,25 +3,25 @@
 mod read; // bytes of the value and of the lent buffers
 mod refusal; // the checks of each question
 
-use crate::read::byte_at;
 use crate::read::open_mask;
-use crate::read::rows_held;
+use crate::read::rows_of;
 use crate::read::supporting_row;
 use crate::refusal::call_refusal;
 use crate::refusal::row_refusal;
 use crate::refusal::slot_refusal;
 use crate::refusal::support_refusal;
+use layout::places::byte_at;
+use layout::value::Value;
 use model::answer::OpenSlots;
 use model::answer::RowState;
 use model::answer::SlotState;
 use model::answer::Support;
-use model::value::Value;
 ghost use Rattle.model.specs.Questions.{SlotsPromise, StatePromise, RowPromise, RowBytesPromise, SupportPromise};
-ghost use Rattle.model.specs.Representation.{stateOf};
+ghost use Rattle.layout.specs.Memory.{memory};
 
 // The mask of a call's open slots, with the number of its ones.
 pub fn open_slots(value: Value, rows: &[u8], killers: &[u8], slots: &[u8], call: u8) -> OpenSlots
-    ensures { λ r. ⌜ SlotsPromise (stateOf value (now (rows .entry)) (now (killers .entry)) (now (slots .entry))) call r ⌝ }
+    ensures { λ r. ⌜ SlotsPromise (memory value (rows .entry) (killers .entry) (slots .entry)) call r ⌝ }
 {
     let counts = value.heads.counts;
     let refusal = call_refusal(&counts, rows, killers, slots, call);
@@ -41,7 +41,7 @@ pub fn slot_state(
     call: u8,
     slot: u8,
 ) -> SlotState
-    ensures { λ r. ⌜ StatePromise (stateOf value (now (rows .entry)) (now (killers .entry)) (now (slots .entry))) call slot r ⌝ }
+    ensures { λ r. ⌜ StatePromise (memory value (rows .entry) (killers .entry) (slots .entry)) call slot r ⌝ }
 {
     let counts = value.heads.counts;
     let refusal = slot_refusal(&counts, rows, killers, slots, call, slot);
@@ -66,7 +66,7 @@ pub fn row_state(
     rule: u8,
     row: u8,
 ) -> RowState
-    ensures { λ r. ⌜ RowPromise (stateOf value (now (rows .entry)) (now (killers .entry)) (now (slots .entry))) rule row r ⌝ }
+    ensures { λ r. ⌜ RowPromise (memory value (rows .entry) (killers .entry) (slots .entry)) rule row r ⌝ }
 {
     let counts = value.heads.counts;
     let arity = value.heads.arity;
@@ -92,7 +92,7 @@ pub fn row_bytes<'a>(
     rule: u8,
     row: u8,
 ) -> &'a [u8]
-    ensures { λ r. ⌜ RowBytesPromise (stateOf value (now (rows .entry)) (now (killers .entry)) (now (slots .entry))) rule row (now r) ⌝ }
+    ensures { λ r. ⌜ RowBytesPromise (memory value (rows .entry) (killers .entry) (slots .entry)) rule row (now r) ⌝ }
 {
     let counts = value.heads.counts;
     let arity = value.heads.arity;
@@ -115,16 +115,16 @@ pub fn support(
     column: u8,
     slot: u8,
 ) -> Support
-    ensures { λ r. ⌜ SupportPromise (stateOf value (now (rows .entry)) (now (killers .entry)) (now (slots .entry))) rule column slot r ⌝ }
+    ensures { λ r. ⌜ SupportPromise (memory value (rows .entry) (killers .entry) (slots .entry)) rule column slot r ⌝ }
 {
     let counts = value.heads.counts;
     let arity = value.heads.arity;
-    let calls = value.heads.calls;
+    let scope = value.heads.scope;
     let lengths = value.heads.lengths;
     let refusal = support_refusal(
         &counts,
         &arity,
-        &calls,
+        &scope,
         rows,
         killers,
         slots,
@@ -135,7 +135,7 @@ pub fn support(
     if refusal != 0 {
         return Support::Refused(refusal);
     }
-    let held = rows_held(&lengths, rule) as usize;
+    let held = rows_of(&lengths, rule);
     let row = supporting_row(rows, killers, rule as usize, held, column as usize, slot);
     if row < held {
         Support::Row(row as u8)

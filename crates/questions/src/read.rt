@@ -1,46 +1,26 @@
 // What the questions read: bytes of the value and of the lent buffers.
+use layout::places::byte_at;
+use layout::places::cap;
 ghost use mathlib.Core.Path.{_≡_};
-ghost use mathlib.Core.List.{[]};
-ghost use Prim.Native.Nat.{_+_, min};
-ghost use lib.ListN.{getD};
+ghost use Prim.Native.Nat.{_+_};
 ghost use lib.Dec.{eqb};
+ghost use Rattle.layout.specs.Places.{columnsOf, rowsOf};
 ghost use Rattle.model.specs.Tests.{first};
 ghost use Rattle.model.specs.Report.{open?};
 ghost use Rattle.model.specs.Questions.{maskOf, supports?};
 ghost use Rattle.questions.specs.Mask.{digit};
-ghost use Rattle.questions.specs.Parts.{stateOfParts, Searchable};
-
-// The byte at a place; 0 past the end.
-pub fn byte_at(bytes: &[u8], at: usize) -> u8
-    ensures { λ r. ⌜ r ≡ getD (now (bytes .entry)) at 0 ⌝ }
-{
-    if at < bytes.len() { bytes[at] } else { 0 }
-}
-
-// x, but at most n.
-fn cap(x: u8, n: u8) -> u8
-    ensures { λ r. ⌜ r ≡ min x n ⌝ }
-{
-    if x < n { x } else { n }
-}
-
-// The slots of a call; 0 where there is no such call.
-pub fn slots_held(counts: &[u8; 32], call: u8) -> u8
-    ensures { λ r. ⌜ r ≡ getD (now (counts .entry)) call 0 ⌝ }
-{
-    byte_at(counts, call as usize)
-}
+ghost use Rattle.questions.specs.Parts.{searchParts, Searchable};
 
 // The columns of a rule; 0 where the number is not in force.
-pub fn columns_held(arity: &[u8; 64], rule: u8) -> u8
-    ensures { λ r. ⌜ r ≡ min (getD (now (arity .entry)) rule 0) 4 ⌝ }
+pub fn columns_of(arity: &[u8; 64], rule: u8) -> usize
+    ensures { λ r. ⌜ r ≡ columnsOf (now (arity .entry)) rule ⌝ }
 {
     cap(byte_at(arity, rule as usize), 4)
 }
 
 // The rows of a rule.
-pub fn rows_held(lengths: &[u8; 64], rule: u8) -> u8
-    ensures { λ r. ⌜ r ≡ min (getD (now (lengths .entry)) rule 0) 64 ⌝ }
+pub fn rows_of(lengths: &[u8; 64], rule: u8) -> usize
+    ensures { λ r. ⌜ r ≡ rowsOf (now (lengths .entry)) rule ⌝ }
 {
     cap(byte_at(lengths, rule as usize), 64)
 }
@@ -69,7 +49,7 @@ pub fn open_mask(slots: &[u8], call: u8) -> u32
 // Row w of the rule is alive and holds the slot in the column.
 fn supports(rows: &[u8], killers: &[u8], rule: usize, w: usize, column: usize, slot: u8) -> bool
     requires { ⌜ Searchable (now rows) (now killers) rule (w + 1) column ⌝ }
-    ensures { λ r. ⌜ r ≡ supports? (stateOfParts [] [] [] [] (now (rows .entry)) (now (killers .entry)) []) rule column slot w ⌝ }
+    ensures { λ r. ⌜ r ≡ supports? (searchParts (rows .entry) (killers .entry)) rule column slot w ⌝ }
 {
     killers[64 * rule + w] == 255 && rows[256 * rule + 4 * w + column] == slot
 }
@@ -84,7 +64,7 @@ pub fn supporting_row(
     slot: u8,
 ) -> usize
     requires { ⌜ Searchable (now rows) (now killers) rule m column ⌝ }
-    ensures { λ r. ⌜ r ≡ first m (supports? (stateOfParts [] [] [] [] (now (rows .entry)) (now (killers .entry)) []) rule column slot) ⌝ }
+    ensures { λ r. ⌜ r ≡ first m (supports? (searchParts (rows .entry) (killers .entry)) rule column slot) ⌝ }
 {
     let mut w = 0;
     while w < m {

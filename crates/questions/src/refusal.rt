@@ -1,38 +1,34 @@
-// The checks of each question, in the order of document 01's table: each makes those of the one before it first, and gives the number of the first that
-// holds, or 0. They look at no more of the value than the counts and heads that they are handed.
-use crate::read::byte_at;
-use crate::read::columns_held;
-use crate::read::rows_held;
-use crate::read::slots_held;
-use model::value::bad_lengths;
+// The checks of each question, as SCOPE 4.1 numbers them and in the order of SCOPE 4.3: the number of the first that holds, or 0. Each is
+// looked at whether or not one before it holds, so none relies on another to be safe. Of the value they see only the parts that they are handed.
+use crate::read::columns_of;
+use crate::read::rows_of;
+use layout::places::byte_at;
+use layout::value::bad_lengths;
+use model::refusal::BAD_NUMBER;
+use model::refusal::BUFFER_LENGTH;
+use model::refusal::NO_BOARD;
+use model::refusal::NO_CALL;
+use model::refusal::NO_COLUMN;
+use model::refusal::NO_ROW;
+use model::refusal::NO_SLOT;
+use model::refusal::NOT_IN_FORCE;
+use model::refusal::or_refuse;
 ghost use mathlib.Core.Path.{_≡_};
-ghost use mathlib.Core.List.{[]};
-ghost use Rattle.model.specs.Ledger.{firstOf};
-ghost use Rattle.model.specs.Questions.{boardChecks, callChecks, slotChecks, ruleChecks, rowChecks, supportChecks};
-ghost use Rattle.questions.specs.Parts.{stateOfParts};
+ghost use Rattle.model.specs.Questions.{callChecks, slotChecks, ruleChecks, rowChecks, supportChecks};
+ghost use Rattle.questions.specs.Parts.{callParts, ruleParts, rowParts, supportParts};
+ghost use Rattle.model.specs.Refusals.{firstOf};
 
-// 1 a buffer is not of its length; 6 there is no board.
-pub fn board_refusal(counts: &[u8; 32], rows: &[u8], killers: &[u8], slots: &[u8]) -> u8
-    ensures { λ r. ⌜ r ≡ firstOf (boardChecks (stateOfParts (now (counts .entry)) [] [] [] (now (rows .entry)) (now (killers .entry)) (now (slots .entry)))) ⌝ }
-{
-    if bad_lengths(rows, killers, slots) {
-        return 1;
-    }
-    if counts[0] == 0 { 6 } else { 0 }
-}
-
-// 18 there is no such call.
+// A call (5.1).
 pub fn call_refusal(counts: &[u8; 32], rows: &[u8], killers: &[u8], slots: &[u8], call: u8) -> u8
-    ensures { λ r. ⌜ r ≡ firstOf (callChecks (stateOfParts (now (counts .entry)) [] [] [] (now (rows .entry)) (now (killers .entry)) (now (slots .entry))) call) ⌝ }
+    ensures { λ r. ⌜ r
+        ≡ firstOf (callChecks (callParts (counts .entry) (rows .entry) (killers .entry) (slots .entry)) call) ⌝ }
 {
-    let refusal = board_refusal(counts, rows, killers, slots);
-    if refusal != 0 {
-        return refusal;
-    }
-    if slots_held(counts, call) == 0 { 18 } else { 0 }
+    let n = or_refuse(0, bad_lengths(rows, killers, slots), BUFFER_LENGTH);
+    let n = or_refuse(n, counts[0] == 0, NO_BOARD);
+    or_refuse(n, byte_at(counts, call as usize) == 0, NO_CALL)
 }
 
-// 19 there is no such slot.
+// A slot of a call (5.2).
 pub fn slot_refusal(
     counts: &[u8; 32],
     rows: &[u8],
@@ -41,21 +37,15 @@ pub fn slot_refusal(
     call: u8,
     slot: u8,
 ) -> u8
-    ensures { λ r. ⌜ r ≡ firstOf (slotChecks (stateOfParts (now (counts .entry)) [] [] [] (now (rows .entry)) (now (killers .entry)) (now (slots .entry))) call slot) ⌝ }
+    ensures { λ r. ⌜ r
+        ≡ firstOf (slotChecks (callParts (counts .entry) (rows .entry) (killers .entry) (slots .entry)) call slot) ⌝ }
 {
-    let refusal = call_refusal(counts, rows, killers, slots, call);
-    if refusal != 0 {
-        return refusal;
-    }
-    if slots_held(counts, call) <= slot {
-        19
-    } else {
-        0
-    }
+    let n = call_refusal(counts, rows, killers, slots, call);
+    or_refuse(n, byte_at(counts, call as usize) <= slot, NO_SLOT)
 }
 
-// 7 the number is over 63; 17 it is not in force.
-pub fn rule_refusal(
+// A rule: what 5.3, 5.4 and 5.5 check first.
+fn rule_refusal(
     counts: &[u8; 32],
     arity: &[u8; 64],
     rows: &[u8],
@@ -63,23 +53,16 @@ pub fn rule_refusal(
     slots: &[u8],
     rule: u8,
 ) -> u8
-    ensures { λ r. ⌜ r ≡ firstOf (ruleChecks (stateOfParts (now (counts .entry)) (now (arity .entry)) [] [] (now (rows .entry)) (now (killers .entry)) (now (slots .entry))) rule) ⌝ }
+    ensures { λ r. ⌜ r
+        ≡ firstOf (ruleChecks (ruleParts (counts .entry) (arity .entry) (rows .entry) (killers .entry) (slots .entry)) rule) ⌝ }
 {
-    let refusal = board_refusal(counts, rows, killers, slots);
-    if refusal != 0 {
-        return refusal;
-    }
-    if 63 < rule {
-        return 7;
-    }
-    if columns_held(arity, rule) == 0 {
-        17
-    } else {
-        0
-    }
+    let n = or_refuse(0, bad_lengths(rows, killers, slots), BUFFER_LENGTH);
+    let n = or_refuse(n, counts[0] == 0, NO_BOARD);
+    let n = or_refuse(n, 63 < rule, BAD_NUMBER);
+    or_refuse(n, columns_of(arity, rule) == 0, NOT_IN_FORCE)
 }
 
-// 20 the row's number is not below the row count.
+// A row of a rule (5.3, 5.4).
 pub fn row_refusal(
     counts: &[u8; 32],
     arity: &[u8; 64],
@@ -90,24 +73,18 @@ pub fn row_refusal(
     rule: u8,
     row: u8,
 ) -> u8
-    ensures { λ r. ⌜ r ≡ firstOf (rowChecks (stateOfParts (now (counts .entry)) (now (arity .entry)) [] (now (lengths .entry)) (now (rows .entry)) (now (killers .entry)) (now (slots .entry))) rule row) ⌝ }
+    ensures { λ r. ⌜ r
+        ≡ firstOf (rowChecks (rowParts (counts .entry) (arity .entry) (lengths .entry) (rows .entry) (killers .entry) (slots .entry)) rule row) ⌝ }
 {
-    let refusal = rule_refusal(counts, arity, rows, killers, slots, rule);
-    if refusal != 0 {
-        return refusal;
-    }
-    if rows_held(lengths, rule) <= row {
-        20
-    } else {
-        0
-    }
+    let n = rule_refusal(counts, arity, rows, killers, slots, rule);
+    or_refuse(n, rows_of(lengths, rule) <= row as usize, NO_ROW)
 }
 
-// 21 the column is not below the arity; 19 there is no such slot of the column's call.
+// A slot in a column of a rule (5.5). The slot belongs to the column's call, so the column is looked at first.
 pub fn support_refusal(
     counts: &[u8; 32],
     arity: &[u8; 64],
-    calls: &[u8; 256],
+    scope: &[u8; 256],
     rows: &[u8],
     killers: &[u8],
     slots: &[u8],
@@ -115,17 +92,13 @@ pub fn support_refusal(
     column: u8,
     slot: u8,
 ) -> u8
-    ensures { λ r. ⌜ r ≡ firstOf (supportChecks (stateOfParts (now (counts .entry)) (now (arity .entry)) (now (calls .entry)) [] (now (rows .entry)) (now (killers .entry)) (now (slots .entry))) rule column slot) ⌝ }
+    ensures { λ r. ⌜ r
+        ≡ firstOf (supportChecks (supportParts (counts .entry) (arity .entry) (scope .entry) (rows .entry) (killers .entry) (slots .entry)) rule column slot) ⌝ }
 {
-    let refusal = rule_refusal(counts, arity, rows, killers, slots, rule);
-    if refusal != 0 {
-        return refusal;
-    }
-    let columns = columns_held(arity, rule);
-    let call = byte_at(calls, 4 * (rule as usize) + (column as usize));
-    let held = slots_held(counts, call);
-    if columns <= column {
-        return 21;
-    }
-    if held <= slot { 19 } else { 0 }
+    let n = rule_refusal(counts, arity, rows, killers, slots, rule);
+    let columns = columns_of(arity, rule);
+    let call = byte_at(scope, 4 * (rule as usize) + (column as usize));
+    let held = byte_at(counts, call as usize);
+    let n = or_refuse(n, columns <= column as usize, NO_COLUMN);
+    or_refuse(n, held <= slot, NO_SLOT)
 }

@@ -1,5 +1,5 @@
 pub mod Line
 pub mod Answers
-pub mod Turn
+pub mod Advance
 pub mod File
 pub mod Whole

@@ -1,5 +1,6 @@
+pub mod Bounds
 pub mod Promise
 pub mod Line
-pub mod Turn
+pub mod Advance
 pub mod File
 pub mod Laws

@@ -1,4 +1,4 @@
--- THE LINE OF A COMMAND, read off its answer: "`a K S R` when accepted, `r K N` when refused".
+-- THE LINE OF A COMMAND (SCOPE 7.2), read off its answer.
 use mathlib.Core.Path.{_≡_}
 use mathlib.Core.List.{List}
 use mathlib.Core.Logic.{_⊎_}
@@ -8,7 +8,9 @@ use Rattle.model.specs.declared.answer.Answer.the-variants as answer
 use Rattle.model.specs.declared.command.Command.{Command}
 use Rattle.model.specs.Commands.{kindOf}
 use Rattle.model.specs.Sheet.{acceptedLine, refusedLine}
-use Rattle.lines.specs.Append.{Appended}
+use Rattle.sheet_lines.specs.Append.{Appended}
+use Rattle.layout.specs.Sizes.{slotsLength}
+use Rattle.sheet_lines.specs.Lengths.{lineMost}
 
 -- the line that an answer gives
 abbrev pub answerLine : Command → Answer → List ℕ
@@ -16,24 +18,24 @@ answerLine c (answer.Accepted r) = acceptedLine (kindOf c) (r .struck) (r .reope
 answerLine c (answer.Refused n) = refusedLine (kindOf c) n
 
 -- S and R of an answer
-abbrev pub struckIn : Answer → ℕ
-struckIn (answer.Accepted r) = r .struck
-struckIn (answer.Refused n) = 0
+abbrev pub reportStruck : Answer → ℕ
+reportStruck (answer.Accepted r) = r .struck
+reportStruck (answer.Refused n) = 0
 
-abbrev pub reopenedIn : Answer → ℕ
-reopenedIn (answer.Accepted r) = r .reopened
-reopenedIn (answer.Refused n) = 0
+abbrev pub reportReopened : Answer → ℕ
+reportReopened (answer.Accepted r) = r .reopened
+reportReopened (answer.Refused n) = 0
 
 -- an answer whose line is short: there are 1,024 slots, and one of S and R is 0
 pub record ShortAnswer (given : Answer) : Type 0 where
-  pub struck : struckIn given ≤ 1024
-  pub reopened : reopenedIn given ≤ 1024
-  pub one : (struckIn given ≡ 0) ⊎ (reopenedIn given ≡ 0)
+  pub struck : reportStruck given ≤ slotsLength
+  pub reopened : reportReopened given ≤ slotsLength
+  pub one : (reportStruck given ≡ 0) ⊎ (reportReopened given ≡ 0)
 
 -- one line is appended: none of a command is longer than 11 bytes
 pub record LineAppended (bytes : List ℕ) (place : ℕ) (old new : List ℕ) (r : ℕ) : Type 0 where
   pub appended : Appended bytes place old new r
-  pub short : r ≤ place + 11
+  pub short : r ≤ place + lineMost
 
 -- a byte as a number
 pub record Wide (b r : ℕ) : Type 0 where

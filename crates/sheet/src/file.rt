@@ -1,25 +1,28 @@
 // The lines of an input that is not too long: those of its commands, one after another, and then those of the board.
-use crate::turn::Progress;
-use model::value::KILLERS;
-use model::value::ROWS;
-use model::value::SLOTS;
-use model::value::Value;
+use crate::advance::Progress;
+use layout::value::KILLERS;
+use layout::value::ROWS;
+use layout::value::SLOTS;
+use layout::value::Value;
 ghost use mathlib.Core.Path.{_≡_};
 ghost use lib.ListN.{length};
 ghost use Rattle.model.specs.Ledger.{fresh};
-ghost use Rattle.model.specs.Representation.{stateOf, Represents};
-ghost use Rattle.lines.specs.Append.{Appended, Room};
+ghost use Rattle.model.specs.Representation.{Represents};
+ghost use Rattle.sheet_lines.specs.Append.{Appended, Room};
 ghost use Rattle.sheet.specs.File.{fileLines, countedLines, Fits, Lined};
+ghost use Rattle.layout.specs.Memory.{memory};
+ghost use Rattle.layout.specs.Sizes.{slotsLength};
+ghost use Rattle.sheet_lines.specs.Lengths.{callLinesMost};
 
 // The lines of the board, whose calls have these counts: at most 32 lines of 91 bytes.
 fn board_lines(out: &mut [u8], place: usize, counts: &[u8; 32], slots: &[u8]) -> usize
-    requires { ⌜ Room place 2912 (now out) ⌝ }
+    requires { ⌜ Room place callLinesMost (now out) ⌝ }
     requires { ⌜ length (now counts) ≡ 32 ⌝ }
-    requires { ⌜ length (now slots) ≡ 1024 ⌝ }
+    requires { ⌜ length (now slots) ≡ slotsLength ⌝ }
     ensures { λ r. ⌜ Appended (countedLines (now (counts .entry)) (now (slots .entry))) place (now (out .entry)) (now (out .exit)) r ⌝ }
 {
-    let n = lines::call_count(counts);
-    lines::call_lines(out, place, slots, n)
+    let n = sheet_lines::call_count(counts);
+    sheet_lines::call_lines(out, place, slots, n)
 }
 
 // On a value and buffers that are fresh.
@@ -32,7 +35,7 @@ fn fresh_lines(
     slots: &mut [u8],
 ) -> usize
     requires { ⌜ Fits (now input) (now out) ⌝ }
-    requires { ⌜ Represents fresh (stateOf value (now rows) (now killers) (now slots)) ⌝ }
+    requires { ⌜ Represents fresh (memory value rows killers slots) ⌝ }
     ensures { λ r. ⌜ Lined (fileLines (now (input .entry))) (now (out .entry)) (now (out .exit)) r ⌝ }
 {
     let mut progress = Progress {
@@ -41,7 +44,7 @@ fn fresh_lines(
         written: 0,
     };
     while progress.read < input.len() {
-        progress = crate::turn::turn(progress, input, out, rows, killers, slots);
+        progress = crate::advance::advance(progress, input, out, rows, killers, slots);
     }
     let end = progress.value;
     let heads = end.heads;

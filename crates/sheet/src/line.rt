@@ -4,8 +4,9 @@ use model::command::Command;
 ghost use mathlib.Core.Path.{_≡_};
 ghost use Rattle.model.specs.Commands.{kindOf};
 ghost use Rattle.model.specs.Sheet.{refusedLine};
-ghost use Rattle.lines.specs.Append.{Room};
+ghost use Rattle.sheet_lines.specs.Append.{Room};
 ghost use Rattle.sheet.specs.Line.{Wide, ShortAnswer, LineAppended, answerLine};
+ghost use Rattle.sheet_lines.specs.Lengths.{lineMost};
 
 // A byte as a number of a line.
 fn wide(b: u8) -> usize
@@ -21,24 +22,24 @@ fn kind_of(command: Command) -> u8
         Command::Board => 1,
         Command::Head(_) => 2,
         Command::Row(_) => 3,
-        Command::Put => 4,
-        Command::Lift(_) => 5,
+        Command::Post => 4,
+        Command::Retract(_) => 5,
     }
 }
 
 // The line of what is refused.
 pub fn refusal_line(out: &mut [u8], place: usize, kind: u8, number: u8) -> usize
-    requires { ⌜ Room place 11 (now out) ⌝ }
+    requires { ⌜ Room place lineMost (now out) ⌝ }
     ensures { λ r. ⌜ LineAppended (refusedLine kind number) place (now (out .entry)) (now (out .exit)) r ⌝ }
 {
     let k = wide(kind);
     let n = wide(number);
-    lines::refused_line(out, place, k, n)
+    sheet_lines::refused_line(out, place, k, n)
 }
 
 // The line of a command that was answered so.
 pub fn answer_line(out: &mut [u8], place: usize, command: Command, answer: Answer) -> usize
-    requires { ⌜ Room place 11 (now out) ⌝ }
+    requires { ⌜ Room place lineMost (now out) ⌝ }
     requires { ⌜ ShortAnswer answer ⌝ }
     ensures { λ r. ⌜ LineAppended (answerLine command answer) place (now (out .entry)) (now (out .exit)) r ⌝ }
 {
@@ -46,7 +47,7 @@ pub fn answer_line(out: &mut [u8], place: usize, command: Command, answer: Answe
     match answer {
         Answer::Accepted(report) => {
             let k = wide(kind);
-            lines::accepted_line(out, place, k, report.struck, report.reopened)
+            sheet_lines::accepted_line(out, place, k, report.struck, report.reopened)
         }
         Answer::Refused(number) => refusal_line(out, place, kind, number),
     }

@@ -1,5 +1,5 @@
-pub mod Facts
 pub mod Sweep
-pub mod Mark
+pub mod Assign
 pub mod Count
 pub mod Lost
+pub mod Laws

@@ -1,8 +1,8 @@
 -- The place goes by the number of bytes that the question hands back.
 use borrow.Author.Needs.{needs}
-use Rattle.berth.specs.Places.{place-replied}
 use Rattle.berth.proofs.berth_row_place.Statement.{statement}
 use Rattle.berth.proofs.berth_row_place.Tie as tie
+use Rattle.berth.specs.Laws.Places.{place-replied}
 
 row-bytes-requires : tie.Need-row-bytes-requires
 row-bytes-requires c κs = search needs

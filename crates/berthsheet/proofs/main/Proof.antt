@@ -10,6 +10,18 @@ slice-aggregate-read-full c = search needs
 read-full-requires : tie.Need-read-full-requires
 read-full-requires c κs = search needs
 
+errno-requires : tie.Need-errno-requires
+errno-requires c κs = search needs
+
+slice-aggregate-fail : tie.Need-slice-aggregate-fail
+slice-aggregate-fail c = search needs
+
+fail-requires : tie.Need-fail-requires
+fail-requires c κs = search needs
+
+returns : tie.Need-returns
+returns c = search needs
+
 array-share-prefix-input : tie.Need-array-share-prefix-input
 array-share-prefix-input c = search needs
 
@@ -28,8 +40,8 @@ enum-known-answer c = search needs
 enum-told : tie.Need-enum-told
 enum-told c = search needs
 
-returns : tie.Need-returns
-returns c = search needs
+returns-2 : tie.Need-returns-2
+returns-2 c = search needs
 
 array-share-prefix-out : tie.Need-array-share-prefix-out
 array-share-prefix-out c = written-fits (c .before .before .before .before .sheet .ensures) (c .before .answer .given .1)
@@ -40,8 +52,17 @@ slice-aggregate-write-all c = written-part (c .before .before .before .before .b
 write-all-requires : tie.Need-write-all-requires
 write-all-requires c κs = search needs
 
-returns-2 : tie.Need-returns-2
-returns-2 c = search needs
+slice-aggregate-fail-2 : tie.Need-slice-aggregate-fail-2
+slice-aggregate-fail-2 c = search needs
+
+fail-requires-2 : tie.Need-fail-requires-2
+fail-requires-2 c κs = search needs
+
+returns-3 : tie.Need-returns-3
+returns-3 c = search needs
+
+returns-4 : tie.Need-returns-4
+returns-4 c = search needs
 
 pub main-spec : {M : Type 1} → statement M
 main-spec =
@@ -49,14 +70,21 @@ main-spec =
     (tie.spec
     slice-aggregate-read-full
     read-full-requires
+    errno-requires
+    slice-aggregate-fail
+    fail-requires
+    returns
     array-share-prefix-input
     slice-aggregate-sheet
     slice-aggregate-sheet-2
     sheet-requires
     enum-known-answer
     enum-told
-    returns
+    returns-2
     array-share-prefix-out
     slice-aggregate-write-all
     write-all-requires
-    returns-2)
+    slice-aggregate-fail-2
+    fail-requires-2
+    returns-3
+    returns-4)

@@ -1,9 +1,9 @@
 -- What is refused is by its form; what is obeyed is by its kind.
 use borrow.Author.Needs.{needs}
 use Rattle.model.specs.Laws.Entry.{refused-end, refused-read, refused-left-over}
-use Rattle.commands.specs.Obeys.{right-lengths, obeys-promise}
 use Rattle.board.proofs.obey_read.Statement.{statement}
 use Rattle.board.proofs.obey_read.Tie as tie
+use Rattle.command_obey.specs.Laws.Obeys.{right-lengths, obeys-promise}
 
 enum-known-read : tie.Need-enum-known-read
 enum-known-read c = search needs

@@ -1,14 +1,13 @@
 -- HOW THE ENTRY'S PROMISE IS KEPT: a command whose lengths or form are wrong is refused under the first number that holds, and any other is left to the
 -- function of its kind. Assumes nothing.
 use mathlib.Core.Path.{_≡_, refl, sym, ap, subst, _∙_}
-use mathlib.Core.Bool.{Bool, true, false, _&&_, cond}
+use mathlib.Core.Bool.{Bool, true, false, cond}
 use mathlib.Core.List.{List, [], _∷_, _++_}
-use mathlib.Core.Logic.{_⊎_, inl, inr}
-use Prim.Native.Nat.{ℕ, suc, _+_, _<_, _≤_}
+use Prim.Native.Nat.{ℕ, zero, suc, _+_, _<_, _≤_}
 use native.Mathlib.Omega.{arith}
 use lib.ListN.{length, getD}
 use lib.Dec.{T, ltb, leb}
-use borrow.Author.Tests.{ltb-true, lt-ltb, le-ltb}
+use borrow.Author.Tests.{lt-ltb, le-ltb}
 use Rattle.model.specs.declared.answer.Answer.{Answer}
 use Rattle.model.specs.declared.answer.Answer.the-variants as answer
 use Rattle.model.specs.declared.command.Command.{Command}
@@ -16,34 +15,19 @@ use Rattle.model.specs.declared.command.Command.the-variants as kind
 use Rattle.model.specs.declared.command.Read.{Read}
 use Rattle.model.specs.declared.command.Read.the-variants as found
 use Rattle.model.specs.declared.command.Decoded.{Decoded}
-use Rattle.model.specs.Commands.{isKind, bodyLength, commandAt, countsAt, without, readAt}
-use Rattle.model.specs.Ledger.{Ledger, badLent, firstOf, formConditions, ownConditions, kindConditions, earlyConditions, refusal, obey, step}
-use Rattle.model.specs.Representation.{State, lentOf, Represents}
+use Rattle.model.specs.Commands.{isKind, bodySize, commandAt, countsAt, without, readAt}
+use Rattle.model.specs.Ledger.{Ledger, lentConditions, formConditions, ownConditions, kindConditions, earlyConditions, refusal, obey, step}
+use Rattle.model.specs.Representation.{Represents}
 use Rattle.model.specs.Promise.{valuesAt, reportValues, ReportsOf, Answered, Obeyed, KindPromise, BoardMade, Promise}
-use Rattle.model.specs.Laws.Shapes.{positive}
+use Rattle.model.specs.Laws.Refusals.{first-stands, rest-decides}
+use Rattle.layout.specs.Memory.{State, lentOf}
+use Rattle.layout.specs.Sizes.{badLent?}
+use Rattle.model.specs.Refusals.{firstOf, isRefusal}
+use Rattle.model.specs.Numbers as refused
 
--- a number of the first part is that of the whole; and where the first part has none, the second decides
-first-early : (xs ys : List (Bool × ℕ)) (n : ℕ) → firstOf xs ≡ suc n → firstOf (xs ++ ys) ≡ suc n
-first-early [] ys n e = absurd (omega arith)
-first-early (x ∷ xs) ys n e = go (x .0) e (λ d. first-early xs ys n d)
-  where
-    go : (b : Bool) → cond b (x .1) (firstOf xs) ≡ suc n → (firstOf xs ≡ suc n → firstOf (xs ++ ys) ≡ suc n) → cond b (x .1) (firstOf (xs ++ ys)) ≡ suc n
-    go true e k = e
-    go false e k = k e
-
-first-own : (xs ys : List (Bool × ℕ)) → T (positive xs) → firstOf xs ≡ 0 → firstOf (xs ++ ys) ≡ firstOf ys
-first-own [] ys t e = refl
-first-own (x ∷ xs) ys t e = go (x .0) (ltb 0 (x .1)) refl t e (λ t d. first-own xs ys t d)
-  where
-    go : (b c : Bool) → ltb 0 (x .1) ≡ c → T (c && positive xs) → cond b (x .1) (firstOf xs) ≡ 0 → (T (positive xs) → firstOf xs ≡ 0 → firstOf (xs ++ ys) ≡ firstOf ys)
-        → cond b (x .1) (firstOf (xs ++ ys)) ≡ firstOf ys
-    go true true q t e k = absurd (omega (arith, ltb-true 0 (x .1) q))
-    go false true q t e k = k t e
-    go b false q t e k = absurd t
-
--- what is read at a place is refused under 3 or 4 only
-pub read-numbers : (s : List ℕ) (at k n : ℕ) → readAt s at .read ≡ found.Refused k n → (n ≡ 3) ⊎ (n ≡ 4)
-read-numbers s at k n = go (leb (length s) at) (isKind (getD s at 0)) (leb (at + 1 + bodyLength (getD s at 0)) (length s))
+-- what is read at a place is refused under a number, and that is never 0
+read-number : (s : List ℕ) (at k n : ℕ) → readAt s at .read ≡ found.Refused k n → T (isRefusal n)
+read-number s at k n = go (leb (length s) at) (isKind (getD s at 0)) (leb (at + 1 + bodySize (getD s at 0)) (length s))
   where
     go : (a b c : Bool)
         → (cond a (without found.End at)
@@ -52,27 +36,28 @@ read-numbers s at k n = go (leb (length s) at) (isKind (getD s at 0)) (leb (at +
         (record {
           read = found.Command (commandAt s (getD s at 0) (at + 1));
           counts = countsAt s (getD s at 0) (at + 1);
-          next = at + 1 + bodyLength (getD s at 0);
+          next = at + 1 + bodySize (getD s at 0);
         })
-        (without (found.Refused (getD s at 0) 4) at))
-        (without (found.Refused (getD s at 0) 3) at))) .read ≡ found.Refused k n
-        → (n ≡ 3) ⊎ (n ≡ 4)
+        (without (found.Refused (getD s at 0) refused.bodyLength) at))
+        (without (found.Refused (getD s at 0) refused.unknownKind) at))) .read ≡ found.Refused k n
+        → T (isRefusal n)
     go true b c e = let z : _≡_ {A = ℕ} 0 1 = cc in absurd (omega arith)
     go false true true e = let z : _≡_ {A = ℕ} 0 1 = cc in absurd (omega arith)
-    go false true false e = inr (let z : n ≡ 4 = cc in z)
-    go false false c e = inl (let z : n ≡ 3 = cc in z)
+    go false true false e = let z : n ≡ refused.bodyLength = cc in rw z tt
+    go false false c e = let z : n ≡ refused.unknownKind = cc in rw z tt
 
 -- the refusals by lengths and by form, as the entry gives them
 module _ (s : State) (bytes : List ℕ) where
-  pub early-lengths : badLent (lentOf s) ≡ true → firstOf (earlyConditions (lentOf s) bytes) ≡ 1
+  pub early-lengths : badLent? (lentOf s) ≡ true → firstOf (earlyConditions (lentOf s) bytes) ≡ refused.bufferLength
   early-lengths bad = rw bad refl
 
-  pub early-form : badLent (lentOf s) ≡ false → firstOf (earlyConditions (lentOf s) bytes) ≡ firstOf (formConditions (readAt bytes 0 .read) (ltb (readAt bytes 0 .next) (length bytes)))
+  pub early-form : badLent? (lentOf s) ≡ false → firstOf (earlyConditions (lentOf s) bytes) ≡ firstOf (formConditions (readAt bytes 0 .read) (ltb (readAt bytes 0 .next) (length bytes)))
   early-form good = rw good refl
 
 -- REFUSED FOR LENGTHS OR FORM
-pub refused-promise : (s : State) (bytes : List ℕ) (n : ℕ) → firstOf (earlyConditions (lentOf s) bytes) ≡ suc n → Promise s bytes (answer.Refused (suc n)) s
-refused-promise s bytes n e =
+refused-promise : (s : State) (bytes : List ℕ) (n : ℕ) → T (isRefusal n) → firstOf (earlyConditions (lentOf s) bytes) ≡ n → Promise s bytes (answer.Refused n) s
+refused-promise s bytes zero t e = absurd t
+refused-promise s bytes (suc n) t e =
     record {
       early = λ m d. sym e ∙ d;
       refused = λ m d. refl;
@@ -81,7 +66,7 @@ refused-promise s bytes n e =
     }
   where
     whole : (L : Ledger) → refusal L (lentOf s) bytes ≡ suc n
-    whole L = first-early (earlyConditions (lentOf s) bytes) (ownConditions L (readAt bytes 0 .read) (readAt bytes 0 .counts)) n e
+    whole L = first-stands (earlyConditions (lentOf s) bytes) (ownConditions L (readAt bytes 0 .read) (readAt bytes 0 .counts)) n e
 
     alone : (L : Ledger) → step L (lentOf s) bytes ≡ L
     alone L = ap (λ (m : ℕ). obey m L (readAt bytes 0 .read) (readAt bytes 0 .counts)) (whole L)
@@ -98,34 +83,27 @@ refused-promise s bytes n e =
 
 -- the four refusals that the entry gives by itself, as it comes upon them
 module _ (s : State) (bytes : List ℕ) where
-  pub refused-lengths : badLent (lentOf s) ≡ true → Promise s bytes (answer.Refused 1) s
-  refused-lengths bad = refused-promise s bytes 0 (early-lengths s bytes bad)
+  pub refused-lengths : badLent? (lentOf s) ≡ true → Promise s bytes (answer.Refused refused.bufferLength) s
+  refused-lengths bad = refused-promise s bytes refused.bufferLength tt (early-lengths s bytes bad)
 
   -- of d, which was read at the first byte
-  module _ (good : badLent (lentOf s) ≡ false) (d : Decoded) (decoded : d ≡ readAt bytes 0) where
+  module _ (good : badLent? (lentOf s) ≡ false) (d : Decoded) (decoded : d ≡ readAt bytes 0) where
     early-read : (r : Read) → d .read ≡ r → firstOf (earlyConditions (lentOf s) bytes) ≡ firstOf (formConditions r (ltb (d .next) (length bytes)))
     early-read r is =
         early-form s bytes good
         ∙ ap (λ (x : Decoded). firstOf (formConditions (x .read) (ltb (x .next) (length bytes)))) (sym decoded)
         ∙ ap (λ (x : Read). firstOf (formConditions x (ltb (d .next) (length bytes)))) is
 
-    pub refused-end : d .read ≡ found.End → Promise s bytes (answer.Refused 3) s
-    refused-end is = refused-promise s bytes 2 (early-read found.End is)
+    pub refused-end : d .read ≡ found.End → Promise s bytes (answer.Refused refused.unknownKind) s
+    refused-end is = refused-promise s bytes refused.unknownKind tt (early-read found.End is)
 
     pub refused-read : (k n : ℕ) → d .read ≡ found.Refused k n → Promise s bytes (answer.Refused n) s
-    refused-read k n is = go (read-numbers bytes 0 k n (ap (λ (x : Decoded). x .read) (sym decoded) ∙ is))
-      where
-        numbered : (m : ℕ) → n ≡ suc m → Promise s bytes (answer.Refused n) s
-        numbered m e =
-            subst (λ (j : ℕ). Promise s bytes (answer.Refused j) s) (sym e) (refused-promise s bytes m (early-read (found.Refused k n) is ∙ e))
-
-        go : (n ≡ 3) ⊎ (n ≡ 4) → Promise s bytes (answer.Refused n) s
-        go (inl e) = numbered 2 e
-        go (inr e) = numbered 3 e
+    refused-read k n is =
+        refused-promise s bytes n (read-number bytes 0 k n (ap (λ (x : Decoded). x .read) (sym decoded) ∙ is)) (early-read (found.Refused k n) is)
 
     module _ (c : Command) (is : d .read ≡ found.Command c) where
-      pub refused-left-over : d .next < length bytes → Promise s bytes (answer.Refused 4) s
-      refused-left-over more = refused-promise s bytes 3 (early-read (found.Command c) is ∙ rw (lt-ltb (d .next) (length bytes) more) refl)
+      pub refused-left-over : d .next < length bytes → Promise s bytes (answer.Refused refused.bodyLength) s
+      refused-left-over more = refused-promise s bytes refused.bodyLength tt (early-read (found.Command c) is ∙ rw (lt-ltb (d .next) (length bytes) more) refl)
 
       -- and none of them
       pub well-formed : length bytes ≤ d .next → firstOf (earlyConditions (lentOf s) bytes) ≡ 0
@@ -135,17 +113,12 @@ module _ (s : State) (bytes : List ℕ) where
 module _ (s : State) (bytes : List ℕ) (c : Command) (given : Answer) (after : State) (is : readAt bytes 0 .read ≡ found.Command c)
     (passes : firstOf (earlyConditions (lentOf s) bytes) ≡ 0) where
   own : (L : Ledger) → refusal L (lentOf s) bytes ≡ firstOf (kindConditions L c (readAt bytes 0 .counts))
-  own L = go (readAt bytes 0 .read) is passes
+  own L =
+      ap (λ (r : Read). firstOf (early r ++ ownConditions L r (readAt bytes 0 .counts))) is
+      ∙ rest-decides (early (found.Command c)) (kindConditions L c (readAt bytes 0 .counts)) tt (ap (λ (r : Read). firstOf (early r)) (sym is) ∙ passes)
     where
-      go : (r : Read) → r ≡ found.Command c → firstOf ((badLent (lentOf s), 1) ∷ formConditions r (ltb (readAt bytes 0 .next) (length bytes))) ≡ 0
-          → firstOf (((badLent (lentOf s), 1) ∷ formConditions r (ltb (readAt bytes 0 .next) (length bytes))) ++ ownConditions L r (readAt bytes 0 .counts))
-          ≡ firstOf (kindConditions L c (readAt bytes 0 .counts))
-      go (found.Command d) e p =
-          let same : d ≡ c = cc in
-          rw (← same)
-          (first-own ((badLent (lentOf s), 1) ∷ (ltb (readAt bytes 0 .next) (length bytes), 4) ∷ []) (kindConditions L d (readAt bytes 0 .counts)) tt p)
-      go (found.Refused k m) e p = let z : _≡_ {A = ℕ} 0 1 = cc in absurd (omega arith)
-      go found.End e p = let z : _≡_ {A = ℕ} 0 1 = cc in absurd (omega arith)
+      early : Read → List (Bool × ℕ)
+      early r = lentConditions (lentOf s) ++ formConditions r (ltb (readAt bytes 0 .next) (length bytes))
 
   pub kind-promise : KindPromise s c (readAt bytes 0 .counts) given after → (c ≡ kind.Board → BoardMade (readAt bytes 0 .counts) given after) → Promise s bytes given after
   kind-promise promise made =

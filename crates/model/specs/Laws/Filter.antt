@@ -10,11 +10,11 @@ use native.Mathlib.Omega.{arith}
 use native.Mathlib.Nat.{add-zero, add-suc, suc-add, zero-add, le-of-suc-le-suc}
 use lib.ListN.{length, getD}
 use lib.Dec.{T, eqb, eqb→eq, not-T, T-not}
-use Rattle.model.specs.Board.{Rule, Board, callAt, slotAt, InForce, counts?, Counts, OnCall, Holds, Within, Supported, SelfSupporting, Passing, Viable, ViableInAny}
+use Rattle.model.specs.Board.{Rule, Board, callAt, slotAt, InForce, active?, Active, InScope, Holds, Within, Supported, SelfSupporting, Passing, Viable, ViableInAny}
 use Rattle.model.specs.Tests.{upFrom, has, keepOnly}
-use Rattle.model.specs.Filter.{in?, onCall?, holds?, within?, supported?, admits?, all?, kept?, passFrom, pass, passes, whole, size, openOf}
+use Rattle.model.specs.Filter.{in?, inScope?, holds?, within?, supported?, admits?, all?, kept?, passFrom, pass, passes, allSlots, size, openOf}
 use Rattle.model.specs.Laws.Tests.{and→, →and, or→, →or, T?, some→, →some, every→, →every, →eqb, keep→, →keep, has-upFrom, upFrom-has}
-use Rattle.model.specs.Laws.Theory.{counts-below, numbered}
+use Rattle.model.specs.Laws.Theory.{active-below, numbered}
 
 -- the slots that are left, as a set
 abbrev pub In : List (List ℕ) → ℕ → ℕ → Type 0
@@ -24,49 +24,49 @@ In left = Passing (in? left)
 module _ (B : Board) (r : Rule) where
   holds→ : (w c s : ℕ) → T (holds? B r w c s) → Holds B r w c s
   holds→ w c s t =
-      let u = some→ (length (r .calls)) (λ k. counts? B r k && (eqb (callAt r k) c && eqb (slotAt r w k) s)) t in
+      let u = some→ (length (r .scope)) (λ k. active? B r k && (eqb (callAt r k) c && eqb (slotAt r w k) s)) t in
       let k = u .0 in
-      let b = and→ (counts? B r k) (eqb (callAt r k) c && eqb (slotAt r w k) s) (u .2) in
+      let b = and→ (active? B r k) (eqb (callAt r k) c && eqb (slotAt r w k) s) (u .2) in
       let d = and→ (eqb (callAt r k) c) (eqb (slotAt r w k) s) (b .1) in
-      record { column = k; counts = b .0; call = eqb→eq (callAt r k) c (d .0); slot = eqb→eq (slotAt r w k) s (d .1) }
+      record { column = k; active = b .0; call = eqb→eq (callAt r k) c (d .0); slot = eqb→eq (slotAt r w k) s (d .1) }
 
   →holds : (w c s : ℕ) → Holds B r w c s → T (holds? B r w c s)
   →holds w c s h =
       let k = h .column in
-      →some (length (r .calls)) (λ k. counts? B r k && (eqb (callAt r k) c && eqb (slotAt r w k) s)) k (counts-below B r k (h .counts))
-      (→and (counts? B r k) (eqb (callAt r k) c && eqb (slotAt r w k) s) (h .counts)
+      →some (length (r .scope)) (λ k. active? B r k && (eqb (callAt r k) c && eqb (slotAt r w k) s)) k (active-below B r k (h .active))
+      (→and (active? B r k) (eqb (callAt r k) c && eqb (slotAt r w k) s) (h .active)
       (→and (eqb (callAt r k) c) (eqb (slotAt r w k) s) (→eqb (callAt r k) c (h .call)) (→eqb (slotAt r w k) s (h .slot))))
 
-  pub onCall→ : (c : ℕ) → T (onCall? B r c) → OnCall B r c
+  pub onCall→ : (c : ℕ) → T (inScope? B r c) → InScope B r c
   onCall→ c t =
-      let u = some→ (length (r .calls)) (λ k. counts? B r k && eqb (callAt r k) c) t in
-      let b = and→ (counts? B r (u .0)) (eqb (callAt r (u .0)) c) (u .2) in
-      record { column = u .0; counts = b .0; call = eqb→eq (callAt r (u .0)) c (b .1) }
+      let u = some→ (length (r .scope)) (λ k. active? B r k && eqb (callAt r k) c) t in
+      let b = and→ (active? B r (u .0)) (eqb (callAt r (u .0)) c) (u .2) in
+      record { column = u .0; active = b .0; call = eqb→eq (callAt r (u .0)) c (b .1) }
 
-  pub →onCall : (c : ℕ) → OnCall B r c → T (onCall? B r c)
+  pub →onCall : (c : ℕ) → InScope B r c → T (inScope? B r c)
   →onCall c o =
       let k = o .column in
-      →some (length (r .calls)) (λ k. counts? B r k && eqb (callAt r k) c) k (counts-below B r k (o .counts))
-      (→and (counts? B r k) (eqb (callAt r k) c) (o .counts) (→eqb (callAt r k) c (o .call)))
+      →some (length (r .scope)) (λ k. active? B r k && eqb (callAt r k) c) k (active-below B r k (o .active))
+      (→and (active? B r k) (eqb (callAt r k) c) (o .active) (→eqb (callAt r k) c (o .call)))
 
   module _ (left : List (List ℕ)) where
     pub within→ : (w : ℕ) → T (within? B left r w) → Within B (In left) r w
     within→ w t k n =
-        go (or→ (not (counts? B r k)) (in? left (callAt r k) (slotAt r w k))
-        (every→ (length (r .calls)) (λ k. not (counts? B r k) || in? left (callAt r k) (slotAt r w k)) t k (counts-below B r k n)))
+        go (or→ (not (active? B r k)) (in? left (callAt r k) (slotAt r w k))
+        (every→ (length (r .scope)) (λ k. not (active? B r k) || in? left (callAt r k) (slotAt r w k)) t k (active-below B r k n)))
       where
-        go : T (not (counts? B r k)) ⊎ In left (callAt r k) (slotAt r w k) → In left (callAt r k) (slotAt r w k)
-        go (inl f) = absurd (T-not (counts? B r k) f n)
+        go : T (not (active? B r k)) ⊎ In left (callAt r k) (slotAt r w k) → In left (callAt r k) (slotAt r w k)
+        go (inl f) = absurd (T-not (active? B r k) f n)
         go (inr i) = i
 
     →within : (A : ℕ → ℕ → Type 0) → ((c s : ℕ) → A c s → In left c s) → (w : ℕ) → Within B A r w → T (within? B left r w)
     →within A sub w a =
-        →every (length (r .calls)) (λ k. not (counts? B r k) || in? left (callAt r k) (slotAt r w k))
-        (λ k h. →or (not (counts? B r k)) (in? left (callAt r k) (slotAt r w k)) (go k (T? (counts? B r k))))
+        →every (length (r .scope)) (λ k. not (active? B r k) || in? left (callAt r k) (slotAt r w k))
+        (λ k h. →or (not (active? B r k)) (in? left (callAt r k) (slotAt r w k)) (go k (T? (active? B r k))))
       where
-        go : (k : ℕ) → Counts B r k ⊎ (Counts B r k → ⊥) → T (not (counts? B r k)) ⊎ In left (callAt r k) (slotAt r w k)
+        go : (k : ℕ) → Active B r k ⊎ (Active B r k → ⊥) → T (not (active? B r k)) ⊎ In left (callAt r k) (slotAt r w k)
         go k (inl n) = inr (sub (callAt r k) (slotAt r w k) (a k n))
-        go k (inr f) = inl (not-T (counts? B r k) f)
+        go k (inr f) = inl (not-T (active? B r k) f)
 
     supported→ : (c s : ℕ) → T (supported? B left r c s) → Supported B (In left) r c s
     supported→ c s t =
@@ -89,25 +89,25 @@ all→ f (x ∷ xs) t (suc p) h = all→ f xs (and→ (f x) (all? f xs) t .1) p 
 →all f (x ∷ xs) g = →and (f x) (all? f xs) (g 0 (omega arith)) (→all f xs (λ p h. g (suc p) (omega arith)))
 
 module _ (B : Board) (left : List (List ℕ)) where
-  kept→ : (c s : ℕ) → T (kept? B left c s) → (p : ℕ) (r : Rule) → InForce B p r → OnCall B r c → Supported B (In left) r c s
+  kept→ : (c s : ℕ) → T (kept? B left c s) → (p : ℕ) (r : Rule) → InForce B p r → InScope B r c → Supported B (In left) r c s
   kept→ c s t p r f o =
       let u : T (admits? B left c s (some r)) = rw f at (all→ (admits? B left c s) (B .rules) t p (numbered B p r f)) in
-      go (or→ (not (onCall? B r c)) (supported? B left r c s) u)
+      go (or→ (not (inScope? B r c)) (supported? B left r c s) u)
     where
-      go : T (not (onCall? B r c)) ⊎ T (supported? B left r c s) → Supported B (In left) r c s
-      go (inl n) = absurd (T-not (onCall? B r c) n (→onCall B r c o))
+      go : T (not (inScope? B r c)) ⊎ T (supported? B left r c s) → Supported B (In left) r c s
+      go (inl n) = absurd (T-not (inScope? B r c) n (→onCall B r c o))
       go (inr u) = supported→ B r left c s u
 
-  →kept : (c s : ℕ) → ((p : ℕ) (r : Rule) → InForce B p r → OnCall B r c → T (supported? B left r c s)) → T (kept? B left c s)
+  →kept : (c s : ℕ) → ((p : ℕ) (r : Rule) → InForce B p r → InScope B r c → T (supported? B left r c s)) → T (kept? B left c s)
   →kept c s all = →all (admits? B left c s) (B .rules) (λ p h. go (getD (B .rules) p none) (λ r f. all p r f))
     where
-      go : (x : Option Rule) → ((r : Rule) → x ≡ some r → OnCall B r c → T (supported? B left r c s)) → T (admits? B left c s x)
+      go : (x : Option Rule) → ((r : Rule) → x ≡ some r → InScope B r c → T (supported? B left r c s)) → T (admits? B left c s x)
       go none f = tt
-      go (some r) f = →or (not (onCall? B r c)) (supported? B left r c s) (either (T? (onCall? B r c)))
+      go (some r) f = →or (not (inScope? B r c)) (supported? B left r c s) (either (T? (inScope? B r c)))
         where
-          either : T (onCall? B r c) ⊎ (T (onCall? B r c) → ⊥) → T (not (onCall? B r c)) ⊎ T (supported? B left r c s)
+          either : T (inScope? B r c) ⊎ (T (inScope? B r c) → ⊥) → T (not (inScope? B r c)) ⊎ T (supported? B left r c s)
           either (inl o) = inr (f r refl (onCall→ B r c o))
-          either (inr n) = inl (not-T (onCall? B r c) n)
+          either (inr n) = inl (not-T (inScope? B r c) n)
 
   -- A PASS keeps the slots that were left and that every rule in force on their call supports
   getD-pass : (c : ℕ) (rest : List (List ℕ)) (i : ℕ) → getD (passFrom B left c rest) i [] ≡ keepOnly (kept? B left (c + i)) (getD rest i [])
@@ -169,7 +169,7 @@ settles B (suc n) left h = go (λ h. settles B n (pass B left) h) (pass-size B l
     go ih (inl e) = rw (e, still B n left e) e
     go ih (inr h′) = ih (omega arith)
 
-getD-whole : (ns : List ℕ) (c : ℕ) → getD (whole ns) c [] ≡ upFrom 0 (getD ns c 0)
+getD-whole : (ns : List ℕ) (c : ℕ) → getD (allSlots ns) c [] ≡ upFrom 0 (getD ns c 0)
 getD-whole [] c = refl
 getD-whole (n ∷ ns) zero = refl
 getD-whole (n ∷ ns) (suc c) = getD-whole ns c
@@ -189,15 +189,15 @@ passes-in B (suc n) left c s t = pass→ B left c s (passes-in B n (pass B left)
 module _ (B : Board) where
   pub found-self : SelfSupporting B (Passing (in? (openOf B)))
   found-self =
-      let n = size (whole (B .counts)) in
+      let n = size (allSlots (B .counts)) in
       record {
-        slots = λ c s t. omega (arith, has-upFrom 0 (getD (B .counts) c 0) s (rw (getD-whole (B .counts) c) at (passes-in B n (whole (B .counts)) c s t)));
-        support = λ c s t. kept→ B (openOf B) c s (pass→ B (openOf B) c s (rw (settles B n (whole (B .counts)) (omega arith)) t) .1);
+        slots = λ c s t. omega (arith, has-upFrom 0 (getD (B .counts) c 0) s (rw (getD-whole (B .counts) c) at (passes-in B n (allSlots (B .counts)) c s t)));
+        support = λ c s t. kept→ B (openOf B) c s (pass→ B (openOf B) c s (rw (settles B n (allSlots (B .counts)) (omega arith)) t) .1);
       }
 
   pub found-all : (A : ℕ → ℕ → Type 0) → SelfSupporting B A → (c s : ℕ) → A c s → T (in? (openOf B) c s)
   found-all A self =
-      inside B A self (size (whole (B .counts))) (whole (B .counts))
+      inside B A self (size (allSlots (B .counts))) (allSlots (B .counts))
       (λ c s a. rw (getD-whole (B .counts) c) (upFrom-has 0 (getD (B .counts) c 0) s (omega arith) (omega (arith, self .slots c s a))))
 
   -- THE FILTER IS RIGHT

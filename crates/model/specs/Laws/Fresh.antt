@@ -6,50 +6,46 @@ use mathlib.Core.Logic.{_⊎_, inl, inr}
 use mathlib.Core.Option.{none}
 use Prim.Native.Nat.{ℕ, _+_, _*_, _<_}
 use native.Mathlib.Omega.{arith}
-use lib.ListN.{length, getD, replicate, length-replicate, getD-replicate}
-use Rattle.model.specs.declared.value.Heads.{Heads}
+use lib.ListN.{length, getD, replicate}
+use Rattle.layout.specs.declared.value.Heads.{Heads}
 use Rattle.model.specs.Board.{Rule, OnBoard, Shape, callAt, slotAt}
 use Rattle.model.specs.Records.{Recorded}
 use Rattle.model.specs.Ledger.{bare, fresh}
-use Rattle.model.specs.Report.{markOf}
-use Rattle.model.specs.Representation.{ruleOr, ruleAt, killerOf, Headed, RowBytes, Stored, Represents, freshHeads, freshState}
+use Rattle.model.specs.Representation.{ruleOr, ruleAt, RuleHeld, Headed, RowBytes, Stored, Represents}
 use Rattle.model.specs.Laws.Tests.{<?}
 use Rattle.model.specs.Laws.Theory.{free-call}
 use Rattle.model.specs.Laws.Shapes.{none-there, bare-none, shape-fresh}
-
--- n bytes, each of them v
-pub record Filled (n v : ℕ) (l : List ℕ) : Type 0 where
-  pub size : length l ≡ n
-  pub all : (j : ℕ) → j < n → getD l j 0 ≡ v
-
-pub filled : (n v : ℕ) → Filled n v (replicate n v)
-filled n v = record { size = length-replicate n v; all = λ j h. getD-replicate n j v 0 h }
+use Rattle.layout.specs.Places.{causeOf, killerOf}
+use Rattle.layout.specs.Value.{freshHeads, emptyRule}
+use Rattle.layout.specs.Memory.{freshState, Filled}
+use Rattle.layout.specs.Laws.Memory.{filled}
+use Rattle.layout.specs.Sizes.{killersLength, rowsLength, slotsLength}
 
 module _ (ns : List ℕ) (shape : Shape (bare ns)) where
   no-rule : (p : ℕ) → ruleAt (bare ns) p ≡ ruleOr none
   no-rule p = ap ruleOr (none-there 64 p)
 
   pub bare-headed : (h : Heads) → length (h .counts) ≡ 32 → ((c : ℕ) → c < 32 → getD (h .counts) c 0 ≡ getD ns c 0)
-      → Filled 64 0 (h .arity) → Filled 256 255 (h .calls) → Filled 64 0 (h .lengths) → Headed (bare ns) h
+      → Filled 64 0 (h .arity) → Filled 256 255 (h .scope) → Filled 64 0 (h .lengths) → Headed (bare ns) h
   bare-headed h size counts fa fc fl =
       record {
         counts-size = size;
         arity-size = fa .size;
-        calls-size = fc .size;
+        scope-size = fc .size;
         lengths-size = fl .size;
         counts = counts;
-        arity = λ p lp. fa .all p lp ∙ sym (ap (λ (r : Rule). length (r .calls)) (no-rule p));
-        calls = λ p k lp lk. fc .all (4 * p + k) (omega arith) ∙ sym (ap (λ (r : Rule). callAt r k) (no-rule p));
+        arity = λ p lp. fa .all p lp ∙ sym (ap (λ (r : Rule). length (r .scope)) (no-rule p));
+        scope = λ p k lp lk. fc .all (4 * p + k) (omega arith) ∙ sym (ap (λ (r : Rule). callAt r k) (no-rule p));
         lengths = λ p lp. fl .all p lp ∙ sym (ap (λ (r : Rule). length (r .rows)) (no-rule p));
       }
 
-  pub bare-rows : (rows : List ℕ) → Filled 16384 255 rows → RowBytes (bare ns) rows
+  pub bare-rows : (rows : List ℕ) → Filled rowsLength 255 rows → RowBytes (bare ns) rows
   bare-rows rows fr =
       record { rows-size = fr .size; bytes = λ p w k lp lw lk. fr .all (256 * p + 4 * w + k) (omega arith) ∙ sym (ap (λ (r : Rule). slotAt r w k) (no-rule p)) }
 
-  module _ (slots : List ℕ) (opened : (c s : ℕ) → OnBoard (bare ns) c s → markOf slots c s ≡ 255)
-      (off : (c s : ℕ) → c < 32 → s < 32 → (OnBoard (bare ns) c s → ⊥) → markOf slots c s ≡ 254) where
-    bare-recorded : (killer : ℕ → ℕ → ℕ) → Recorded (bare ns) (markOf slots) killer
+  module _ (slots : List ℕ) (opened : (c s : ℕ) → OnBoard (bare ns) c s → causeOf slots c s ≡ 255)
+      (off : (c s : ℕ) → c < 32 → s < 32 → (OnBoard (bare ns) c s → ⊥) → causeOf slots c s ≡ 254) where
+    bare-recorded : (killer : ℕ → ℕ → ℕ) → Recorded (bare ns) (causeOf slots) killer
     bare-recorded killer =
         record {
           sound = record {
@@ -61,14 +57,14 @@ module _ (ns : List ℕ) (shape : Shape (bare ns)) where
           alive = λ p r f. absurd (bare-none ns p r f);
         }
 
-    bare-open : (c s : ℕ) → c < 32 → s < 32 → markOf slots c s ≡ 255 → OnBoard (bare ns) c s
+    bare-open : (c s : ℕ) → c < 32 → s < 32 → causeOf slots c s ≡ 255 → OnBoard (bare ns) c s
     bare-open c s lc ls e = go (<? s (getD ns c 0))
       where
         go : OnBoard (bare ns) c s ⊎ (OnBoard (bare ns) c s → ⊥) → OnBoard (bare ns) c s
         go (inl on) = on
         go (inr n) = absurd (omega (arith, off c s lc ls n))
 
-    pub bare-stored : (h : Heads) (rows killers : List ℕ) → Headed (bare ns) h → Filled 16384 255 rows → Filled 4096 255 killers → length slots ≡ 1024
+    pub bare-stored : (h : Heads) (rows killers : List ℕ) → Headed (bare ns) h → Filled rowsLength 255 rows → Filled killersLength 255 killers → length slots ≡ slotsLength
         → Stored (bare ns) h rows killers slots
     bare-stored h rows killers headed fr fk size =
         record {
@@ -85,21 +81,25 @@ module _ (ns : List ℕ) (shape : Shape (bare ns)) where
           recorded = bare-recorded (killerOf killers);
         }
 
+-- no rule is the empty one
+pub empty-held : RuleHeld (ruleOr none) emptyRule
+empty-held =
+    record {
+      scope-size = refl;
+      rows-size = refl;
+      arity = refl;
+      scope = λ k lk. filled 4 255 .all k lk;
+      length-is = refl;
+      rows = λ w k lw lk. filled 256 255 .all (4 * w + k) (omega arith);
+    }
+
 -- THE FRESH VALUE AND BUFFERS represent the fresh ledger
 pub fresh-represents : Represents fresh freshState
 fresh-represents =
     record {
-      stored = bare-stored [] (shape-fresh .board) (replicate 1024 254) (λ c s on. absurd (omega arith)) (λ c s lc ls n. filled 1024 254 .all (32 * c + s) (omega arith))
-          freshHeads (replicate 16384 255) (replicate 4096 255)
+      stored = bare-stored [] (shape-fresh .board) (replicate slotsLength 254) (λ c s on. absurd (omega arith)) (λ c s lc ls n. filled slotsLength 254 .all (32 * c + s) (omega arith))
+          freshHeads (replicate rowsLength 255) (replicate killersLength 255)
           (bare-headed [] (shape-fresh .board) freshHeads refl (λ c lc. filled 32 0 .all c lc) (filled 64 0) (filled 256 255) (filled 64 0))
-          (filled 16384 255) (filled 4096 255) (filled 1024 254 .size);
-      drafted = record {
-        calls-size = refl;
-        rows-size = refl;
-        number = refl;
-        arity = refl;
-        calls = λ k lk. filled 4 255 .all k lk;
-        length-is = refl;
-        rows = λ w k lw lk. filled 256 255 .all (4 * w + k) (omega arith);
-      };
+          (filled rowsLength 255) (filled killersLength 255) (filled slotsLength 254 .size);
+      drafted = record { number = refl; rule = empty-held };
     }

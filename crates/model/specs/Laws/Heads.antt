@@ -7,20 +7,20 @@ use native.Mathlib.Omega.{arith}
 use lib.ListN.{length, getD, List·getD-eq-default}
 use lib.Dec.{eqb, leb}
 use borrow.Author.Tests.{eq-eqb, ne-eqb, le-leb, lt-leb}
-use Rattle.tables.specs.Facts.{lt-or-le}
-use Rattle.model.specs.declared.value.Heads.{Heads}
+use Rattle.layout.specs.declared.value.Heads.{Heads}
 use Rattle.model.specs.Board.{Rule, Board, Shape}
 use Rattle.model.specs.Tests.{isNone}
-use Rattle.model.specs.Representation.{ruleOr, ruleAt, noCalls, Headed}
+use Rattle.model.specs.Representation.{ruleOr, ruleAt, noCalls?, Headed}
+use Rattle.tables.specs.Laws.Facts.{lt-or-le}
 
 module _ (B : Board) (shape : Shape B) where
   -- a rule has a column
-  pub no-columns : (p : ℕ) → eqb (length (ruleAt B p .calls)) 0 ≡ isNone (getD (B .rules) p none)
+  pub no-columns : (p : ℕ) → eqb (length (ruleAt B p .scope)) 0 ≡ isNone (getD (B .rules) p none)
   no-columns p = go (getD (B .rules) p none) refl
     where
-      go : (o : Option Rule) → getD (B .rules) p none ≡ o → eqb (length (ruleOr o .calls)) 0 ≡ isNone o
+      go : (o : Option Rule) → getD (B .rules) p none ≡ o → eqb (length (ruleOr o .scope)) 0 ≡ isNone o
       go none e = refl
-      go (some r) e = let least = shape .rules p r e .least in ne-eqb (length (r .calls)) 0 (λ e. omega arith)
+      go (some r) e = let least = shape .rules p r e .least in ne-eqb (length (r .scope)) 0 (λ e. omega arith)
 
   module _ (heads : Heads) (headed : Headed B heads) where
     pub counts-held : (c : ℕ) → getD (heads .counts) c 0 ≡ getD (B .counts) c 0
@@ -40,7 +40,7 @@ module _ (B : Board) (shape : Shape B) where
         (lt-or-le c (length (B .counts)))
 
     -- there is a board exactly where the first call has slots
-    pub no-calls : noCalls (heads .counts) ≡ eqb (length (B .counts)) 0
+    pub no-calls : noCalls? (heads .counts) ≡ eqb (length (B .counts)) 0
     no-calls =
         no-call 0
         ∙ ⊎-elim (λ lt. lt-leb (length (B .counts)) 0 lt ∙ sym (ne-eqb (length (B .counts)) 0 (λ e. omega arith)))

@@ -1,7 +1,7 @@
--- A CALL AFFECTS ONLY CALLS JOINED TO IT BY RULES, whether something of it is open or not: the open slots of the others are those of the board without it.
--- Assumes nothing.
+-- A CALL HAS NO EFFECT ON CALLS THAT NO RULES JOIN TO IT (SCOPE 1.9), whether something of it is open or not: their open slots are those of the board without
+-- it. Assumes nothing.
 use mathlib.Core.Path.{_≡_, refl}
-use mathlib.Core.Bool.{Bool, true, false, cond}
+use mathlib.Core.Bool.{Bool, true, false}
 use mathlib.Core.List.{List, [], _∷_}
 use mathlib.Core.Logic.{_↔_, _≢_}
 use mathlib.Core.Option.{Option, none, some}
@@ -9,50 +9,34 @@ use Prim.Native.Nat.{ℕ, zero, suc}
 use native.Mathlib.Omega.{arith}
 use lib.ListN.{getD, set}
 use lib.Seq.{getD-set-other}
-use Rattle.model.specs.Board.{Rule, Board, callAt, slotAt, InForce, Counts, OnCall, Supported, SelfSupporting, Passing, Viable}
-use Rattle.model.specs.Filter.{onCall?}
+use Rattle.model.specs.Board.{Rule, Board, callAt, slotAt, InForce, Active, InScope, Supported, SelfSupporting, Passing, Viable}
+use Rattle.model.specs.Filter.{inScope?}
 use Rattle.model.specs.Laws.Tests.{T→, →T, none-some}
-use Rattle.model.specs.Laws.Theory.{counts-same}
+use Rattle.model.specs.Laws.Theory.{active-same}
 use Rattle.model.specs.Laws.Filter.{viable-in-any, onCall→, →onCall}
-
--- call d is joined to call c by a chain of rules in force
-pub data Joined (B : Board) (c : ℕ) : ℕ → Type 0 where
-  itself : Joined B c c
-  by : {d e : ℕ} (p : ℕ) (r : Rule) → Joined B c d → InForce B p r → OnCall B r d → OnCall B r e → Joined B c e
-
--- THE BOARD WITHOUT CALL c: it has no slot, and no rule on it is in force
-abbrev pub unless : Bool → Option Rule → Option Rule
-unless b o = cond b none o
-
-abbrev pub offCall : Board → ℕ → List (Option Rule) → List (Option Rule)
-offCall B c [] = []
-offCall B c (none ∷ os) = none ∷ offCall B c os
-offCall B c (some r ∷ os) = unless (onCall? B r c) (some r) ∷ offCall B c os
-
-abbrev pub withoutCall : Board → ℕ → Board
-withoutCall B c = record { counts = set (B .counts) c 0; rules = offCall B c (B .rules) }
+use Rattle.model.specs.Joined.{Joined, unless, offCall, withoutCall, by, itself}
 
 -- a rule in force on it was in force and is not on c; and a rule that is not on c stays in force
-off-from : (B : Board) (c : ℕ) (os : List (Option Rule)) (p : ℕ) (r : Rule) → getD (offCall B c os) p none ≡ some r → (getD os p none ≡ some r) × (OnCall B r c → ⊥)
+off-from : (B : Board) (c : ℕ) (os : List (Option Rule)) (p : ℕ) (r : Rule) → getD (offCall B c os) p none ≡ some r → (getD os p none ≡ some r) × (InScope B r c → ⊥)
 off-from B c [] p r e = none-some e
 off-from B c (none ∷ os) zero r e = none-some e
-off-from B c (some u ∷ os) zero r e = go (onCall? B u c) refl e
+off-from B c (some u ∷ os) zero r e = go (inScope? B u c) refl e
   where
-    go : (b : Bool) → onCall? B u c ≡ b → unless b (some u) ≡ some r → (some u ≡ some r) × (OnCall B r c → ⊥)
+    go : (b : Bool) → inScope? B u c ≡ b → unless b (some u) ≡ some r → (some u ≡ some r) × (InScope B r c → ⊥)
     go true q e = none-some e
     go false q e =
         let same : u ≡ r = cc in
-        (e, λ o. let z : _≡_ {A = ℕ} 0 1 = cc (q, T→ (onCall? B u c) (→onCall B u c (rw (← same) at o))) in omega arith)
+        (e, λ o. let z : _≡_ {A = ℕ} 0 1 = cc (q, T→ (inScope? B u c) (→onCall B u c (rw (← same) at o))) in omega arith)
 off-from B c (none ∷ os) (suc p) r e = off-from B c os p r e
 off-from B c (some u ∷ os) (suc p) r e = off-from B c os p r e
 
-off-keeps : (B : Board) (c : ℕ) (os : List (Option Rule)) (p : ℕ) (r : Rule) → getD os p none ≡ some r → (OnCall B r c → ⊥) → getD (offCall B c os) p none ≡ some r
+off-keeps : (B : Board) (c : ℕ) (os : List (Option Rule)) (p : ℕ) (r : Rule) → getD os p none ≡ some r → (InScope B r c → ⊥) → getD (offCall B c os) p none ≡ some r
 off-keeps B c [] p r e n = none-some e
 off-keeps B c (none ∷ os) zero r e n = none-some e
-off-keeps B c (some u ∷ os) zero r e n = go (onCall? B u c) refl
+off-keeps B c (some u ∷ os) zero r e n = go (inScope? B u c) refl
   where
-    go : (b : Bool) → onCall? B u c ≡ b → unless b (some u) ≡ some r
-    go true q = let same : u ≡ r = cc in absurd (n (rw same at (onCall→ B u c (→T (onCall? B u c) q))))
+    go : (b : Bool) → inScope? B u c ≡ b → unless b (some u) ≡ some r
+    go true q = let same : u ≡ r = cc in absurd (n (rw same at (onCall→ B u c (→T (inScope? B u c) q))))
     go false q = e
 off-keeps B c (none ∷ os) (suc p) r e n = off-keeps B c os p r e n
 off-keeps B c (some u ∷ os) (suc p) r e n = off-keeps B c os p r e n
@@ -63,18 +47,18 @@ counts-off B c d n = getD-set-other (B .counts) c d 0 0 n
 
 -- what a rule asks is the same on both boards
 module _ (B B′ : Board) where
-  pub on-call-along : {r : Rule} {c : ℕ} → OnCall B r c → OnCall B′ r c
-  on-call-along {r} o = record { column = o .column; counts = counts-same B B′ r r (o .column) refl (o .counts); call = o .call }
+  pub on-call-along : {r : Rule} {c : ℕ} → InScope B r c → InScope B′ r c
+  on-call-along {r} o = record { column = o .column; active = active-same B B′ r r (o .column) refl (o .active); call = o .call }
 
   pub supported-along : (A C : ℕ → ℕ → Type 0) (r : Rule) (c s : ℕ) → (u : Supported B A r c s)
-      → ((k : ℕ) → Counts B r k → A (callAt r k) (slotAt r (u .row) k) → C (callAt r k) (slotAt r (u .row) k)) → Supported B′ C r c s
+      → ((k : ℕ) → Active B r k → A (callAt r k) (slotAt r (u .row) k) → C (callAt r k) (slotAt r (u .row) k)) → Supported B′ C r c s
   supported-along A C r c s u to =
       let h = u .holds in
       record {
         row = u .row;
         inside = u .inside;
-        holds = record { column = h .column; counts = counts-same B B′ r r (h .column) refl (h .counts); call = h .call; slot = h .slot };
-        within = λ k t. let b = counts-same B′ B r r k refl t in to k b (u .within k b);
+        holds = record { column = h .column; active = active-same B B′ r r (h .column) refl (h .active); call = h .call; slot = h .slot };
+        within = λ k t. let b = active-same B′ B r r k refl t in to k b (u .within k b);
       }
 
 module _ (B : Board) (c : ℕ) where
@@ -83,8 +67,8 @@ module _ (B : Board) (c : ℕ) where
   Apart A d s = A d s × (Joined B c d → ⊥)
 
   -- every call of a rule on a call that is not joined is not joined
-  spread : (p : ℕ) (r : Rule) (d k : ℕ) → InForce B p r → OnCall B r d → (Joined B c d → ⊥) → Counts B r k → Joined B c (callAt r k) → ⊥
-  spread p r d k f o n t j = n (by p r j f (record { column = k; counts = t; call = refl }) o)
+  spread : (p : ℕ) (r : Rule) (d k : ℕ) → InForce B p r → InScope B r d → (Joined B c d → ⊥) → Active B r k → Joined B c (callAt r k) → ⊥
+  spread p r d k f o n t j = n (by p r j f (record { column = k; active = t; call = refl }) o)
 
   leave-out : (A : ℕ → ℕ → Type 0) → SelfSupporting B A → SelfSupporting (withoutCall B c) (Apart A)
   unfolding Apart
@@ -106,7 +90,7 @@ module _ (B : Board) (c : ℕ) where
         support = λ d s a p r f o.
             let g = off-keeps B c (B .rules) p r f (λ oc. a .1 (by p r itself f oc o)) in
             supported-along (withoutCall B c) B A (λ d s. A d s × (Joined B c d → ⊥)) r d s (self .support d s (a .0) p r g (on-call-along B (withoutCall B c) o))
-            (λ k t x. (x, spread p r d k f o (a .1) (counts-same (withoutCall B c) B r r k refl t)));
+            (λ k t x. (x, spread p r d k f o (a .1) (active-same (withoutCall B c) B r r k refl t)));
       }
 
   -- THE SLOTS OF A CALL THAT NO CHAIN OF RULES JOINS to c are viable with it and without it alike

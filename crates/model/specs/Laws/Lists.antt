@@ -1,4 +1,4 @@
--- DEMAND 3 OVER WHOLE LISTS, from what each step keeps. The state after a list is the ledger's, so its records are right, and the rest is theory.
+-- DEMAND 3 (SCOPE 6.12 to 6.15), from what each step keeps. The state after a list is the ledger's, so its records are right, and the rest is theory.
 -- Assumes nothing.
 use mathlib.Core.Path.{_≡_, refl, sym, ap, subst, _∙_}
 use mathlib.Core.Bool.{Bool, true, false, cond}
@@ -11,38 +11,41 @@ use borrow.Author.Tests.{eqb-true, eq-eqb}
 use Rattle.model.specs.declared.answer.Answer.the-variants as answer
 use Rattle.model.specs.Board.{Board}
 use Rattle.model.specs.Records.{Recorded}
-use Rattle.model.specs.Ledger.{Ledger, LedgerShape, Lent, Member, fresh, badLent, step, stepBy, ledgerAfter, run}
-use Rattle.model.specs.Report.{markOf}
-use Rattle.model.specs.Representation.{State, lentOf, killerOf, Represents, freshState}
+use Rattle.model.specs.Ledger.{Ledger, LedgerShape, Member, fresh, step, stepBy, ledgerAfter, run}
+use Rattle.model.specs.Representation.{Represents}
 use Rattle.model.specs.Promise.{Promise}
-use Rattle.model.specs.Lists.{Runs, done, then, standing, Turn, Demand3, Demand3Two}
+use Rattle.model.specs.Lists.{Runs, done, then, standing, Entered, Demand3, Demand3Two}
 use Rattle.model.specs.Laws.Theory.{open-viable, struck-caused, row-records, no-ring, escape-from-all, plan-open, viable-mono}
 use Rattle.model.specs.Laws.Answers.{refused-by}
 use Rattle.model.specs.Laws.Shapes.{lent-sizes, shape-step, shape-fresh}
 use Rattle.model.specs.Laws.Fresh.{fresh-represents}
+use Rattle.layout.specs.Places.{causeOf, killerOf}
+use Rattle.layout.specs.Memory.{State, lentOf, freshState}
+use Rattle.layout.specs.Sizes.{Lent, badLent?}
+use Rattle.model.specs.Numbers as refused
 
 -- a state that is a ledger's has what demand 3 says of one list
 pub state-demand : (L : Ledger) (s : State) → LedgerShape L → Represents L s → Demand3 (L .board) s
 state-demand L s shape rep =
     record {
-      ring = no-ring B mark killer known;
-      escape = escape-from-all B mark killer known;
-      plan = λ plan full c lc h. let lt = h .1 in omega (arith, plan-open B mark killer known plan (shape .board) full c lc .1);
-      cause = struck-caused B mark killer known;
-      killer = row-records B mark killer known;
-      viable = open-viable B mark killer known;
+      ring = no-ring B cause killer known;
+      escape = escape-from-all B cause killer known;
+      plan = λ plan full c lc h. let lt = h .1 in omega (arith, plan-open B cause killer known plan (shape .board) full c lc .1);
+      cause = struck-caused B cause killer known;
+      killer = row-records B cause killer known;
+      viable = open-viable B cause killer known;
     }
   where
     B : Board
     B = L .board
 
-    mark : ℕ → ℕ → ℕ
-    mark = markOf (s .slots)
+    cause : ℕ → ℕ → ℕ
+    cause = causeOf (s .slots)
 
     killer : ℕ → ℕ → ℕ
     killer = killerOf (s .killers)
 
-    known : Recorded B mark killer
+    known : Recorded B cause killer
     known = rep .stored .recorded
 
 pub states-demand : (L L′ : Ledger) (s s′ : State) → LedgerShape L → Represents L s → LedgerShape L′ → Represents L′ s′ → Demand3Two (L .board) s (L′ .board) s′
@@ -89,10 +92,10 @@ state-same a b v r k s =
     e
 
 -- A MEMBER HANDED A BUFFER OF ANOTHER LENGTH leaves everything as it was: the promise says refused 1, and that a refusal changes nothing
-pub bad-turn : (m : Member) (s s′ : State) → Turn m s s′ → badLent (m .lent) ≡ true → s′ ≡ s
-bad-turn m s s′ t bad =
-    let short : badLent (lentOf (t .handed)) ≡ true = ap badLent (t .lengths) ∙ bad in
-    let refused : t .given ≡ answer.Refused 1 = refused-by (t .given) 0 (t .promise .early 0 (rw short refl)) in
+pub bad-lengths-stand : (m : Member) (s s′ : State) → Entered m s s′ → badLent? (m .lent) ≡ true → s′ ≡ s
+bad-lengths-stand m s s′ t bad =
+    let short : badLent? (lentOf (t .handed)) ≡ true = ap badLent? (t .lengths) ∙ bad in
+    let refused : t .given ≡ answer.Refused refused.bufferLength = refused-by (t .given) 0 (t .promise .early 0 (rw short refl)) in
     let same : t .left ≡ t .handed = t .promise .refused 1 refused in
     t .stands
     ∙ state-same (record {
@@ -106,7 +109,7 @@ bad-turn m s s′ t bad =
     (rw same (standing-same (s .slots) (t .handed .slots) (t .slots)))
 
 -- A MEMBER HANDED THE RIGHT LENGTHS is handed what stands, and what it leaves stands after it
-module _ (L : Ledger) (m : Member) (s s′ : State) (rep : Represents L s) (t : Turn m s s′) (good : badLent (m .lent) ≡ false) where
+module _ (L : Ledger) (m : Member) (s s′ : State) (rep : Represents L s) (t : Entered m s s′) (good : badLent? (m .lent) ≡ false) where
   own-lengths : lentOf s ≡ m .lent
   own-lengths =
       let e = lent-sizes (m .lent) good in
@@ -141,25 +144,25 @@ module _ (L : Ledger) (m : Member) (s s′ : State) (rep : Represents L s) (t : 
 abbrev pub IsOf : Ledger → State → Type 0
 IsOf L s = LedgerShape L × Represents L s
 
-pub turn-keeps : (L : Ledger) (m : Member) (s s′ : State) → IsOf L s → Turn m s s′ → IsOf (step L (m .lent) (m .bytes)) s′
-turn-keeps L m s s′ is t = (shape-step L (m .lent) (m .bytes) (is .0), go (badLent (m .lent)) refl)
+pub entered-keeps : (L : Ledger) (m : Member) (s s′ : State) → IsOf L s → Entered m s s′ → IsOf (step L (m .lent) (m .bytes)) s′
+entered-keeps L m s s′ is t = (shape-step L (m .lent) (m .bytes) (is .0), go (badLent? (m .lent)) refl)
   where
-    go : (b : Bool) → badLent (m .lent) ≡ b → Represents (step L (m .lent) (m .bytes)) s′
+    go : (b : Bool) → badLent? (m .lent) ≡ b → Represents (step L (m .lent) (m .bytes)) s′
     go true bad =
         let alone : step L (m .lent) (m .bytes) ≡ L = rw bad refl in
-        rw (alone, bad-turn m s s′ t bad) (is .1)
+        rw (alone, bad-lengths-stand m s s′ t bad) (is .1)
     go false good =
         subst (λ (l : Lent). Represents (step L l (m .bytes)) s′) (own-lengths L m s s′ (is .1) t good)
         (good-turn L m s s′ (is .1) t good .answered L (is .0) (is .1) .represents)
 
 -- DEMAND 3 FOR EVERY LIST OF RAW COMMANDS, with any lengths and refused ones among them, and for every two
-pub demand-3 : (ms : List Member) (s : State) → Runs State Member Turn freshState ms s → Demand3 (run fresh ms .board) s
-demand-3 = every-run State Member (λ s. s) stepBy Turn IsOf freshState (λ L s is. is) (shape-fresh, fresh-represents) turn-keeps
+pub demand-3 : (ms : List Member) (s : State) → Runs State Member Entered freshState ms s → Demand3 (run fresh ms .board) s
+demand-3 = every-run State Member (λ s. s) stepBy Entered IsOf freshState (λ L s is. is) (shape-fresh, fresh-represents) entered-keeps
 
-pub demand-3-two : (ms ms′ : List Member) (s s′ : State) → Runs State Member Turn freshState ms s → Runs State Member Turn freshState ms′ s′
+pub demand-3-two : (ms ms′ : List Member) (s s′ : State) → Runs State Member Entered freshState ms s → Runs State Member Entered freshState ms′ s′
     → Demand3Two (run fresh ms .board) s (run fresh ms′ .board) s′
-demand-3-two = every-two-runs State Member (λ s. s) stepBy Turn IsOf freshState (λ L s is. is) (shape-fresh, fresh-represents) turn-keeps
+demand-3-two = every-two-runs State Member (λ s. s) stepBy Entered IsOf freshState (λ L s is. is) (shape-fresh, fresh-represents) entered-keeps
 
 -- and what stands after a list is the ledger's, the shape with it
-pub runs-represent : (ms : List Member) (s : State) → Runs State Member Turn freshState ms s → IsOf (run fresh ms) s
-runs-represent ms s ran = runs-keep State Member (λ s. s) stepBy Turn IsOf freshState (λ L s is. is) (shape-fresh, fresh-represents) turn-keeps fresh (shape-fresh, fresh-represents) ran
+pub runs-represent : (ms : List Member) (s : State) → Runs State Member Entered freshState ms s → IsOf (run fresh ms) s
+runs-represent ms s ran = runs-keep State Member (λ s. s) stepBy Entered IsOf freshState (λ L s is. is) (shape-fresh, fresh-represents) entered-keeps fresh (shape-fresh, fresh-represents) ran

@@ -6,10 +6,12 @@ use native.Mathlib.Omega.{arith}
 use Rattle.model.specs.declared.answer.Report.{Report}
 use Rattle.model.specs.declared.answer.Answer.the-variants as answer
 use Rattle.model.specs.declared.command.Command.{Command}
-use Rattle.model.specs.Ledger.{Ledger, LedgerShape, firstOf, kindConditions, effect}
+use Rattle.model.specs.Ledger.{Ledger, LedgerShape, kindConditions, effect}
 use Rattle.model.specs.Report.{Reports}
-use Rattle.model.specs.Representation.{State, Represents}
+use Rattle.model.specs.Representation.{Represents}
 use Rattle.model.specs.Promise.{KindPromise}
+use Rattle.layout.specs.Memory.{State}
+use Rattle.model.specs.Refusals.{firstOf}
 
 module _ (before : State) (c : Command) (ns : List ℕ) where
   -- refused: n is that number on every ledger that the state represents, and nothing is changed

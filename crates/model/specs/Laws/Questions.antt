@@ -12,23 +12,27 @@ use lib.ListN.{length, getD, drop, length-drop, List·getD-eq-default}
 use lib.Seq.{getD-take, getD-drop, length-take-le}
 use lib.Dec.{T, eqb, ltb, leb, eqb→eq}
 use borrow.Author.Tests.{ltb-false, leb-false, lt-ltb, le-ltb, le-leb, eq-eqb, ne-eqb}
-use Rattle.tables.specs.Facts.{true-false, true-or-false, lt-or-le}
 use Rattle.model.specs.declared.answer.SlotState.the-variants as state
 use Rattle.model.specs.declared.answer.RowState.the-variants as row
 use Rattle.model.specs.declared.answer.Support.the-variants as support
 use Rattle.model.specs.Board.{Rule, Board, callAt, slotAt, OnBoard, InForce, Alive, Dead, Shape}
 use Rattle.model.specs.Records.{Struck, Caused, KillerIn, Recorded}
-use Rattle.model.specs.Tests.{some?, count, first, isNone}
-use Rattle.model.specs.Ledger.{Ledger, LedgerShape, firstOf, noBoard, notInForce}
-use Rattle.model.specs.Report.{markOf, open?}
+use Rattle.model.specs.Tests.{some?, countBelow, first, isNone}
+use Rattle.model.specs.Ledger.{Ledger, LedgerShape, noBoard?, notInForce?}
+use Rattle.model.specs.Report.{open?}
 use Rattle.model.specs.Promise.{valuesAt}
-use Rattle.model.specs.Representation.{State, lentOf, ruleOr, ruleAt, killerOf, noCalls, Represents}
-use Rattle.model.specs.Questions.{boardConditions, callConditions, slotConditions, ruleConditions, rowConditions, supportConditions, slotsHeld, columnsHeld, rowsHeld, boardChecks, callChecks, slotChecks, ruleChecks, rowChecks, supportChecks, maskOf, slotsNumber, slotsValues, slotsBy, slotsAnswer, SlotsPromise, stateNumber, stateBy, stateAnswer, StateMeans, StatePromise, rowNumber, rowBy, rowAnswer, RowMeans, RowPromise, bytesBy, rowBytesAnswer, RowBytesPromise, supportNumber, supports?, foundRow, supportBy, supportAnswer, SupportMeans, SupportPromise}
+use Rattle.model.specs.Representation.{ruleOr, ruleAt, noCalls?, Represents}
+use Rattle.model.specs.Questions.{callConditions, slotConditions, rowConditions, supportConditions, slotsHeld, callChecks, slotChecks, rowChecks, supportChecks, maskOf, slotsNumber, slotsValues, slotsBy, slotsAnswer, SlotsPromise, stateNumber, stateBy, stateAnswer, StateMeans, StatePromise, rowNumber, rowBy, rowAnswer, RowMeans, RowPromise, bytesBy, rowBytesAnswer, RowBytesPromise, supportNumber, supports?, foundRow, supportBy, supportAnswer, SupportMeans, SupportPromise}
 use Rattle.model.specs.Laws.Tests.{or-false, and→, →and, →T, T→, →some, →eqb, none-passes}
 use Rattle.model.specs.Laws.Theory.{open-viable, struck-caused, row-records}
-use Rattle.model.specs.Laws.Shapes.{passed}
+use Rattle.model.specs.Laws.Refusals.{none-holds}
 use Rattle.model.specs.Laws.Change.{column-below}
 use Rattle.model.specs.Laws.Heads.{no-columns, counts-held, no-call, no-calls}
+use Rattle.layout.specs.Places.{causeOf, columnsOf, killerOf, rowsOf}
+use Rattle.layout.specs.Memory.{State, lentOf}
+use Rattle.tables.specs.Laws.Facts.{true-false, true-or-false, lt-or-le}
+use Rattle.model.specs.Refusals.{firstOf}
+use Rattle.model.specs.Numbers as refused
 
 -- THE FIRST NUMBER that passes a test
 pub first-some : (n : ℕ) (f : ℕ → Bool) → T (some? n f) → (first n f < n) × T (f (first n f))
@@ -54,31 +58,31 @@ first-found (suc n) f w h t e = go (λ l. first-found n f w l t e) (eq-or-lt-of-
     go ih (inr l) = rw (T→ (some? n f) (→some n f w l t)) (ih l)
 
 -- WHAT THE RECORDS MEAN: a slot's byte, and a row's
-module _ (B : Board) (mark killer : ℕ → ℕ → ℕ) (known : Recorded B mark killer) where
-  state-means : (c t : ℕ) → OnBoard B c t → StateMeans B c t (stateBy 0 (mark c t))
+module _ (B : Board) (cause killer : ℕ → ℕ → ℕ) (known : Recorded B cause killer) where
+  state-means : (c t : ℕ) → OnBoard B c t → StateMeans B c t (stateBy 0 (cause c t))
   state-means c t on = go (known .sound .either c t on)
     where
-      go : (mark c t ≡ 255) ⊎ (mark c t < 64) → StateMeans B c t (stateBy 0 (mark c t))
-      go (inl e) = rw (eq-eqb (mark c t) 255 e) (open-viable B mark killer known c t .0 (on, e))
+      go : (cause c t ≡ 255) ⊎ (cause c t < 64) → StateMeans B c t (stateBy 0 (cause c t))
+      go (inl e) = rw (eq-eqb (cause c t) 255 e) (open-viable B cause killer known c t .0 (on, e))
       go (inr lt) =
-          let why : Caused B mark c t = struck-caused B mark killer known c t (on, lt) in
-          rw (ne-eqb (mark c t) 255 (λ e. omega arith)) (
-            λ v. omega (arith, open-viable B mark killer known c t .1 v .1),
+          let why : Caused B cause c t = struck-caused B cause killer known c t (on, lt) in
+          rw (ne-eqb (cause c t) 255 (λ e. omega arith)) (
+            λ v. omega (arith, open-viable B cause killer known c t .1 v .1),
             (why .rule, why .force, why .call),
           )
 
   -- a row without a killer is alive, and the other way round
   killer-none : Shape B → (p : ℕ) (r : Rule) → InForce B p r → (w : ℕ) → w < length (r .rows) → (killer p w ≡ 255) ↔ Alive B r w
-  killer-none shape p r f w lw = go (row-records B mark killer known p r f w lw)
+  killer-none shape p r f w lw = go (row-records B cause killer known p r f w lw)
     where
-      go : ((killer p w ≡ 255) × Alive B r w) ⊎ (KillerIn B killer (Struck B mark) r p w × Dead B r w) → (killer p w ≡ 255) ↔ Alive B r w
+      go : ((killer p w ≡ 255) × Alive B r w) ⊎ (KillerIn B killer (Struck B cause) r p w × Dead B r w) → (killer p w ≡ 255) ↔ Alive B r w
       go (inl a) = (λ e. a .1, λ a′. a .0)
       go (inr d) = (λ e. absurd (omega (arith, column-below B shape p r f (killer p w) (d .0 .column))), λ a. absurd (d .1 a))
 
   row-means : Shape B → (p : ℕ) (r : Rule) → InForce B p r → (w : ℕ) → w < length (r .rows) → RowMeans B r w (rowBy 0 (killer p w))
-  row-means shape p r f w lw = go (row-records B mark killer known p r f w lw)
+  row-means shape p r f w lw = go (row-records B cause killer known p r f w lw)
     where
-      go : ((killer p w ≡ 255) × Alive B r w) ⊎ (KillerIn B killer (Struck B mark) r p w × Dead B r w) → RowMeans B r w (rowBy 0 (killer p w))
+      go : ((killer p w ≡ 255) × Alive B r w) ⊎ (KillerIn B killer (Struck B cause) r p w × Dead B r w) → RowMeans B r w (rowBy 0 (killer p w))
       go (inl a) = rw (eq-eqb (killer p w) 255 (a .0)) (a .1)
       go (inr d) =
           let k = killer p w in
@@ -86,15 +90,15 @@ module _ (B : Board) (mark killer : ℕ → ℕ → ℕ) (known : Recorded B mar
           let struck = d .0 .member .1 in
           rw (ne-eqb k 255 (λ e. omega (arith, column-below B shape p r f k column))) (
             column,
-            λ v. omega (arith, open-viable B mark killer known (callAt r k) (slotAt r w k) .1 v .1),
+            λ v. omega (arith, open-viable B cause killer known (callAt r k) (slotAt r w k) .1 v .1),
           )
 
 -- WHAT THE HEADS HOLD of a ledger: each of its numbers, whatever the call or the rule's number
 module _ (L : Ledger) (shape : LedgerShape L) (s : State) (rep : Represents L s) where
-  limits : (p : ℕ) → (length (ruleAt (L .board) p .calls) ≤ 4) × (length (ruleAt (L .board) p .rows) ≤ 64)
+  limits : (p : ℕ) → (length (ruleAt (L .board) p .scope) ≤ 4) × (length (ruleAt (L .board) p .rows) ≤ 64)
   limits p = go (getD (L .board .rules) p none) refl
     where
-      go : (o : Option Rule) → getD (L .board .rules) p none ≡ o → (length (ruleOr o .calls) ≤ 4) × (length (ruleOr o .rows) ≤ 64)
+      go : (o : Option Rule) → getD (L .board .rules) p none ≡ o → (length (ruleOr o .scope) ≤ 4) × (length (ruleOr o .rows) ≤ 64)
       go none e = (omega arith, omega arith)
       go (some r) e = let g = shape .board .rules p r e in (g .most, g .few)
 
@@ -105,18 +109,18 @@ module _ (L : Ledger) (shape : LedgerShape L) (s : State) (rep : Represents L s)
   pub slots-held : (c : ℕ) → slotsHeld (s .value .heads) c ≡ getD (L .board .counts) c 0
   slots-held = counts-held (L .board) (shape .board) (s .value .heads) (rep .stored .headed)
 
-  pub columns-held : (p : ℕ) → columnsHeld (s .value .heads) p ≡ length (ruleAt (L .board) p .calls)
+  pub columns-held : (p : ℕ) → columnsOf (s .value .heads .arity) p ≡ length (ruleAt (L .board) p .scope)
   columns-held p =
       ⊎-elim (λ lt. omega (arith, rep .stored .headed .arity p lt, limits p .0))
       (λ le.
       omega (
         arith,
-        ap (λ (r : Rule). length (r .calls)) (no-rule p le),
+        ap (λ (r : Rule). length (r .scope)) (no-rule p le),
         List·getD-eq-default (s .value .heads .arity) 0 {n = p} (omega (arith, rep .stored .headed .arity-size)),
       ))
       (lt-or-le p 64)
 
-  pub rows-held : (p : ℕ) → rowsHeld (s .value .heads) p ≡ length (ruleAt (L .board) p .rows)
+  pub rows-held : (p : ℕ) → rowsOf (s .value .heads .lengths) p ≡ length (ruleAt (L .board) p .rows)
   rows-held p =
       ⊎-elim (λ lt. omega (arith, rep .stored .headed .lengths p lt, limits p .1))
       (λ le.
@@ -130,24 +134,18 @@ module _ (L : Ledger) (shape : LedgerShape L) (s : State) (rep : Represents L s)
   no-slots : (c : ℕ) → eqb (slotsHeld (s .value .heads) c) 0 ≡ leb (length (L .board .counts)) c
   no-slots = no-call (L .board) (shape .board) (s .value .heads) (rep .stored .headed)
 
-  no-board : noCalls (s .value .heads .counts) ≡ noBoard L
+  no-board : noCalls? (s .value .heads .counts) ≡ noBoard? L
   no-board = no-calls (L .board) (shape .board) (s .value .heads) (rep .stored .headed)
 
-  not-in-force : (p : ℕ) → eqb (columnsHeld (s .value .heads) p) 0 ≡ notInForce L p
+  not-in-force : (p : ℕ) → eqb (columnsOf (s .value .heads .arity) p) 0 ≡ notInForce? L p
   not-in-force p = ap (λ (n : ℕ). eqb n 0) (columns-held p) ∙ no-columns (L .board) (shape .board) p
 
   -- THE CHECKS ARE THE CONDITIONS
-  pub board-checks : boardChecks s ≡ boardConditions L (lentOf s)
-  board-checks = rw no-board refl
-
   pub call-checks : (c : ℕ) → callChecks s c ≡ callConditions L (lentOf s) c
   call-checks c = rw (no-board, no-slots c) refl
 
   pub slot-checks : (c t : ℕ) → slotChecks s c t ≡ slotConditions L (lentOf s) c t
   slot-checks c t = rw (no-board, no-slots c, slots-held c) refl
-
-  pub rule-checks : (p : ℕ) → ruleChecks s p ≡ ruleConditions L (lentOf s) p
-  rule-checks p = rw (no-board, not-in-force p) refl
 
   pub row-checks : (p w : ℕ) → rowChecks s p w ≡ rowConditions L (lentOf s) p w
   row-checks p w = rw (no-board, not-in-force p, rows-held p) refl
@@ -156,20 +154,20 @@ module _ (L : Ledger) (shape : LedgerShape L) (s : State) (rep : Represents L s)
   pub support-checks : (p k t : ℕ) → firstOf (supportChecks s p k t) ≡ firstOf (supportConditions L (lentOf s) p k t)
   support-checks p k t =
       rw (no-board, not-in-force p, columns-held p)
-      (⊎-elim (λ lt. let in-rule = columns p k lt in rw (rep .stored .headed .calls p k (in-rule .0) (in-rule .1), slots-held (callAt (ruleAt (L .board) p) k)) refl)
-      (λ le. rw (le-leb (length (ruleAt (L .board) p .calls)) k le) refl)
-      (lt-or-le k (length (ruleAt (L .board) p .calls))))
+      (⊎-elim (λ lt. let in-rule = columns p k lt in rw (rep .stored .headed .scope p k (in-rule .0) (in-rule .1), slots-held (callAt (ruleAt (L .board) p) k)) refl)
+      (λ le. rw (le-leb (length (ruleAt (L .board) p .scope)) k le) refl)
+      (lt-or-le k (length (ruleAt (L .board) p .scope))))
     where
-      columns : (p k : ℕ) → k < length (ruleAt (L .board) p .calls) → (p < 64) × (k < 4)
+      columns : (p k : ℕ) → k < length (ruleAt (L .board) p .scope) → (p < 64) × (k < 4)
       columns p k lt =
           let few = limits p .0 in
-          (⊎-elim (λ h. h) (λ le. absurd (omega (arith, ap (λ (r : Rule). length (r .calls)) (no-rule p le)))) (lt-or-le p 64), omega arith)
+          (⊎-elim (λ h. h) (λ le. absurd (omega (arith, ap (λ (r : Rule). length (r .scope)) (no-rule p le)))) (lt-or-le p 64), omega arith)
 
   -- WHAT THE CONDITIONS THAT DO NOT HOLD GIVE: a slot of the board; a rule in force with that row, or with that column
   slot-on-board : (c t : ℕ) → firstOf (slotConditions L (lentOf s) c t) ≡ 0 → OnBoard (L .board) c t
-  slot-on-board c t e = let q = passed (slotConditions L (lentOf s) c t) tt e in leb-false (getD (L .board .counts) c 0) t (q .1 .1 .1 .0)
+  slot-on-board c t e = leb-false (getD (L .board .counts) c 0) t (none-holds (slotConditions L (lentOf s) c t) tt e refused.noSlot)
 
-  in-force : (p : ℕ) → notInForce L p ≡ false → InForce (L .board) p (ruleAt (L .board) p)
+  in-force : (p : ℕ) → notInForce? L p ≡ false → InForce (L .board) p (ruleAt (L .board) p)
   in-force p e = go (getD (L .board .rules) p none) e
     where
       go : (o : Option Rule) → isNone o ≡ false → o ≡ some (ruleOr o)
@@ -179,20 +177,26 @@ module _ (L : Ledger) (shape : LedgerShape L) (s : State) (rep : Represents L s)
   row-there : (p w : ℕ) → firstOf (rowConditions L (lentOf s) p w) ≡ 0
       → (p < 64) × InForce (L .board) p (ruleAt (L .board) p) × (w < length (ruleAt (L .board) p .rows))
   row-there p w e =
-      let q = passed (rowConditions L (lentOf s) p w) tt e in
-      (omega (arith, ltb-false 63 p (q .1 .1 .0)), in-force p (q .1 .1 .1 .0), leb-false (length (ruleAt (L .board) p .rows)) w (q .1 .1 .1 .1 .0))
+      let clear = none-holds (rowConditions L (lentOf s) p w) tt e in (
+        omega (arith, ltb-false 63 p (clear refused.badNumber)),
+        in-force p (clear refused.notInForce),
+        leb-false (length (ruleAt (L .board) p .rows)) w (clear refused.noRow),
+      )
 
   column-there : (p k t : ℕ) → firstOf (supportConditions L (lentOf s) p k t) ≡ 0
-      → (p < 64) × InForce (L .board) p (ruleAt (L .board) p) × (k < length (ruleAt (L .board) p .calls))
+      → (p < 64) × InForce (L .board) p (ruleAt (L .board) p) × (k < length (ruleAt (L .board) p .scope))
   column-there p k t e =
-      let q = passed (supportConditions L (lentOf s) p k t) tt e in
-      (omega (arith, ltb-false 63 p (q .1 .1 .0)), in-force p (q .1 .1 .1 .0), leb-false (length (ruleAt (L .board) p .calls)) k (q .1 .1 .1 .1 .0))
+      let clear = none-holds (supportConditions L (lentOf s) p k t) tt e in (
+        omega (arith, ltb-false 63 p (clear refused.badNumber)),
+        in-force p (clear refused.notInForce),
+        leb-false (length (ruleAt (L .board) p .scope)) k (clear refused.noColumn),
+      )
 
   -- A ROW SUPPORTS a slot in a column exactly where it is alive and has it there
-  supports-means : (p k t w : ℕ) → p < 64 → InForce (L .board) p (ruleAt (L .board) p) → k < length (ruleAt (L .board) p .calls) → w < length (ruleAt (L .board) p .rows)
+  supports-means : (p k t w : ℕ) → p < 64 → InForce (L .board) p (ruleAt (L .board) p) → k < length (ruleAt (L .board) p .scope) → w < length (ruleAt (L .board) p .rows)
       → T (supports? s p k t w) ↔ (Alive (L .board) (ruleAt (L .board) p) w × (slotAt (ruleAt (L .board) p) w k ≡ t))
   supports-means p k t w lp f lk lw =
-      let alive = killer-none (L .board) (markOf (s .slots)) (killerOf (s .killers)) (rep .stored .recorded) (shape .board) p (ruleAt (L .board) p) f w lw in
+      let alive = killer-none (L .board) (causeOf (s .slots)) (killerOf (s .killers)) (rep .stored .recorded) (shape .board) p (ruleAt (L .board) p) f w lw in
       let most = limits p in
       let byte = rep .stored .row-bytes .bytes p w k lp (omega arith) (omega arith) in
       let living = eqb (killerOf (s .killers) p w) 255 in
@@ -201,7 +205,7 @@ module _ (L : Ledger) (shape : LedgerShape L) (s : State) (rep : Represents L s)
         λ h. →and living there (→eqb (killerOf (s .killers) p w) 255 (alive .1 (h .0))) (→eqb (getD (s .rows) (256 * p + 4 * w + k) 0) t (byte ∙ h .1)),
       )
 
-  support-means : (p k t : ℕ) → p < 64 → InForce (L .board) p (ruleAt (L .board) p) → k < length (ruleAt (L .board) p .calls)
+  support-means : (p k t : ℕ) → p < 64 → InForce (L .board) p (ruleAt (L .board) p) → k < length (ruleAt (L .board) p .scope)
       → SupportMeans (L .board) (ruleAt (L .board) p) k t (foundRow (length (ruleAt (L .board) p .rows)) (first (length (ruleAt (L .board) p .rows)) (supports? s p k t)))
   support-means p k t lp f lk = go (true-or-false (some? m (supports? s p k t)))
     where
@@ -225,7 +229,7 @@ slots-number zero bytes c = refl
 slots-number (suc n) bytes c = refl
 
 slots-values : (n : ℕ) (bytes : List ℕ) (c : ℕ)
-    → slotsValues (slotsBy n bytes c) ≡ valuesAt n (maskOf 32 (open? bytes c) ∷ count 32 (open? bytes c) ∷ [])
+    → slotsValues (slotsBy n bytes c) ≡ valuesAt n (maskOf 32 (open? bytes c) ∷ countBelow 32 (open? bytes c) ∷ [])
 slots-values zero bytes c = refl
 slots-values (suc n) bytes c = refl
 
@@ -262,7 +266,7 @@ slots-promise s c =
           record {
             number = slots-number (firstOf (callChecks s c)) (s .slots) c ∙ e;
             values = slots-values (firstOf (callChecks s c)) (s .slots) c
-                ∙ ap (λ (n : ℕ). valuesAt n (maskOf 32 (open? (s .slots) c) ∷ count 32 (open? (s .slots) c) ∷ [])) e;
+                ∙ ap (λ (n : ℕ). valuesAt n (maskOf 32 (open? (s .slots) c) ∷ countBelow 32 (open? (s .slots) c) ∷ [])) e;
           };
     }
 
@@ -272,9 +276,9 @@ state-promise s c t =
       equation = refl;
       answered = λ L shape rep. let e = ap firstOf (slot-checks L shape s rep c t) in
           record {
-            number = state-number (firstOf (slotChecks s c t)) (markOf (s .slots) c t) ∙ e;
-            means = λ z. subst (λ (n : ℕ). StateMeans (L .board) c t (stateBy n (markOf (s .slots) c t))) (sym (e ∙ z))
-                (state-means (L .board) (markOf (s .slots)) (killerOf (s .killers)) (rep .stored .recorded) c t (slot-on-board L shape s rep c t z));
+            number = state-number (firstOf (slotChecks s c t)) (causeOf (s .slots) c t) ∙ e;
+            means = λ z. subst (λ (n : ℕ). StateMeans (L .board) c t (stateBy n (causeOf (s .slots) c t))) (sym (e ∙ z))
+                (state-means (L .board) (causeOf (s .slots)) (killerOf (s .killers)) (rep .stored .recorded) c t (slot-on-board L shape s rep c t z));
           };
     }
 
@@ -287,7 +291,7 @@ row-promise s p w =
             number = row-number (firstOf (rowChecks s p w)) (killerOf (s .killers) p w) ∙ e;
             means = λ z. let there = row-there L shape s rep p w z in
                 subst (λ (n : ℕ). RowMeans (L .board) (ruleAt (L .board) p) w (rowBy n (killerOf (s .killers) p w))) (sym (e ∙ z))
-                (row-means (L .board) (markOf (s .slots)) (killerOf (s .killers)) (rep .stored .recorded) (shape .board) p (ruleAt (L .board) p) (there .1) w (there .2));
+                (row-means (L .board) (causeOf (s .slots)) (killerOf (s .killers)) (rep .stored .recorded) (shape .board) p (ruleAt (L .board) p) (there .1) w (there .2));
           };
     }
 
@@ -315,9 +319,9 @@ support-promise s p k t =
       equation = refl;
       answered = λ L shape rep. let e = support-checks L shape s rep p k t in
           record {
-            number = support-number (firstOf (supportChecks s p k t)) (rowsHeld (s .value .heads) p) (first (rowsHeld (s .value .heads) p) (supports? s p k t)) ∙ e;
+            number = support-number (firstOf (supportChecks s p k t)) (rowsOf (s .value .heads .lengths) p) (first (rowsOf (s .value .heads .lengths) p) (supports? s p k t)) ∙ e;
             means = λ z. let there = column-there L shape s rep p k t z in
-                subst (λ (n : ℕ). SupportMeans (L .board) (ruleAt (L .board) p) k t (supportBy n (rowsHeld (s .value .heads) p) (first (rowsHeld (s .value .heads) p) (supports? s p k t))))
+                subst (λ (n : ℕ). SupportMeans (L .board) (ruleAt (L .board) p) k t (supportBy n (rowsOf (s .value .heads .lengths) p) (first (rowsOf (s .value .heads .lengths) p) (supports? s p k t))))
                 (sym (e ∙ z))
                 (subst (λ (m : ℕ). SupportMeans (L .board) (ruleAt (L .board) p) k t (foundRow m (first m (supports? s p k t)))) (sym (rows-held L shape s rep p))
                 (support-means L shape s rep p k t (there .0) (there .1) (there .2)));

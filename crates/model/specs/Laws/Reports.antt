@@ -10,25 +10,28 @@ use lib.Dec.{T, ltb, eqb→eq, ltb→lt, lt→ltb, not-T, T-not}
 use Rattle.model.specs.Board.{OnBoard}
 use Rattle.model.specs.Filter.{in?, openOf}
 use Rattle.model.specs.Ledger.{Ledger}
-use Rattle.model.specs.Report.{slotCount, markOf, open?, struck?, closed?, struckBetween, reopenedBetween, struckOf, reopenedOf}
-use Rattle.model.specs.Representation.{State, Represents}
+use Rattle.model.specs.Report.{slotCount, open?, struck?, closed?, struckBetween, reopenedBetween, struckOf, reopenedOf}
+use Rattle.model.specs.Representation.{Represents}
 use Rattle.model.specs.Laws.Tests.{and→, →and, <?, →eqb, same-test, count-same}
 use Rattle.model.specs.Laws.Filter.{found-viable}
+use Rattle.layout.specs.Places.{causeOf}
+use Rattle.layout.specs.Memory.{State}
+use Rattle.layout.specs.Sizes.{slotsLength}
 
 module _ (L : Ledger) (s : State) (rep : Represents L s) (c t : ℕ) (lc : c < 32) (lt : t < 32) where
   -- a byte that is open, and one that is a cause
   pub open-in : open? (s .slots) c t ≡ in? (openOf (L .board)) c t
   open-in =
       same-test (open? (s .slots) c t) (in? (openOf (L .board)) c t)
-      (λ o. found-viable (L .board) c t .1 (rep .stored .viable c t lc lt .0 (eqb→eq (markOf (s .slots) c t) 255 o)))
-      (λ i. →eqb (markOf (s .slots) c t) 255 (rep .stored .viable c t lc lt .1 (found-viable (L .board) c t .0 i)))
+      (λ o. found-viable (L .board) c t .1 (rep .stored .viable c t lc lt .0 (eqb→eq (causeOf (s .slots) c t) 255 o)))
+      (λ i. →eqb (causeOf (s .slots) c t) 255 (rep .stored .viable c t lc lt .1 (found-viable (L .board) c t .0 i)))
 
   on-board : T (struck? (s .slots) c t) → OnBoard (L .board) c t
   on-board h = go (<? t (getD (L .board .counts) c 0))
     where
       go : OnBoard (L .board) c t ⊎ (OnBoard (L .board) c t → ⊥) → OnBoard (L .board) c t
       go (inl on) = on
-      go (inr n) = absurd (omega (arith, rep .stored .off c t lc lt n, ltb→lt (markOf (s .slots) c t) 64 h))
+      go (inr n) = absurd (omega (arith, rep .stored .off c t lc lt n, ltb→lt (causeOf (s .slots) c t) 64 h))
 
   pub struck-closed : struck? (s .slots) c t ≡ closed? (L .board) (openOf (L .board)) c t
   struck-closed =
@@ -36,18 +39,18 @@ module _ (L : Ledger) (s : State) (rep : Represents L s) (c t : ℕ) (lc : c < 3
       (λ h.
       →and (ltb t (getD (L .board .counts) c 0)) (not (in? (openOf (L .board)) c t)) (lt→ltb t (getD (L .board .counts) c 0) (on-board h))
       (not-T (in? (openOf (L .board)) c t)
-      (λ i. omega (arith, ltb→lt (markOf (s .slots) c t) 64 h, rep .stored .viable c t lc lt .1 (found-viable (L .board) c t .0 i)))))
+      (λ i. omega (arith, ltb→lt (causeOf (s .slots) c t) 64 h, rep .stored .viable c t lc lt .1 (found-viable (L .board) c t .0 i)))))
       (λ h.
       let b = and→ (ltb t (getD (L .board .counts) c 0)) (not (in? (openOf (L .board)) c t)) h in
       cause (b .1) (rep .stored .recorded .sound .either c t (ltb→lt t (getD (L .board .counts) c 0) (b .0))))
     where
-      cause : T (not (in? (openOf (L .board)) c t)) → (markOf (s .slots) c t ≡ 255) ⊎ (markOf (s .slots) c t < 64) → T (struck? (s .slots) c t)
+      cause : T (not (in? (openOf (L .board)) c t)) → (causeOf (s .slots) c t ≡ 255) ⊎ (causeOf (s .slots) c t < 64) → T (struck? (s .slots) c t)
       cause n (inl e) = absurd (T-not (in? (openOf (L .board)) c t) n (found-viable (L .board) c t .1 (rep .stored .viable c t lc lt .0 e)))
-      cause n (inr h) = lt→ltb (markOf (s .slots) c t) 64 h
+      cause n (inr h) = lt→ltb (causeOf (s .slots) c t) 64 h
 
 -- tests that agree on the slots of the memory count alike
 slots-same : (f g : ℕ → ℕ → Bool) → ((c t : ℕ) → c < 32 → t < 32 → f c t ≡ g c t) → slotCount f ≡ slotCount g
-slots-same f g same = count-same 1024 (λ i. f (i / 32) (i % 32)) (λ i. g (i / 32) (i % 32)) (λ i h. same (i / 32) (i % 32) (omega arith) (omega arith))
+slots-same f g same = count-same slotsLength (λ i. f (i / 32) (i % 32)) (λ i. g (i / 32) (i % 32)) (λ i h. same (i / 32) (i % 32) (omega arith) (omega arith))
 
 module _ (L L′ : Ledger) (s s′ : State) (rep : Represents L s) (rep′ : Represents L′ s′) where
   pub struck-between : struckBetween (s .slots) (s′ .slots) ≡ struckOf (L′ .board) (openOf (L .board)) (openOf (L′ .board))

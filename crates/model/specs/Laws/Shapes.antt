@@ -1,4 +1,4 @@
--- EVERY COMMAND KEEPS THE LEDGER'S SHAPE, whatever its bytes, refused or accepted: what a rule of good shape asks is what the table checks. Assumes nothing.
+-- EVERY COMMAND KEEPS THE LEDGER'S SHAPE, whatever its bytes, refused or accepted: what a rule of good shape asks is what the conditions check. Assumes nothing.
 use mathlib.Core.Path.{_≡_, refl, sym, ap, _∙_}
 use mathlib.Core.Bool.{Bool, true, false, true≢false, not, _&&_, _||_, cond, and-eq-true-iff}
 use mathlib.Core.List.{List, [], _∷_, _++_}
@@ -10,9 +10,8 @@ use native.Mathlib.Nat.{eq-or-lt-of-le, le-of-suc-le-suc}
 use native.Mathlib.Decide.{ℕ-discrete}
 use lib.ListN.{length, getD, take, drop, set, replicate, length-set, length-take, length-append, List·getD-append}
 use lib.Seq.{getD-set-same, getD-set-other, getD-take, getD-append-seam, length-take-le}
-use lib.Dec.{T, eqb, ltb, leb}
-use borrow.Author.Tests.{ltb-true, ltb-false, leb-false, eqb-true, eqb-false, eq-eqb, not-false}
-use Rattle.tables.specs.Facts.{true-false}
+use lib.Dec.{eqb, ltb, leb}
+use borrow.Author.Tests.{ltb-false, leb-false, eqb-true, eqb-false, eq-eqb, not-false}
 use Rattle.model.specs.declared.command.Head.{Head}
 use Rattle.model.specs.declared.command.Row.{Row}
 use Rattle.model.specs.declared.command.Command.{Command}
@@ -21,34 +20,21 @@ use Rattle.model.specs.declared.command.Read.{Read}
 use Rattle.model.specs.declared.command.Read.the-variants as found
 use Rattle.model.specs.Board.{Rule, Board, callAt, slotAt, InForce, GoodRule, Shape}
 use Rattle.model.specs.Tests.{some?, every?, isNone}
-use Rattle.model.specs.Commands.{isKind, bodyLength, commandAt, without, readAt, callsOf, slotsOf}
-use Rattle.model.specs.Ledger.{NumberedRule, Ledger, LedgerShape, Lent, Member, bare, fresh, draftOr, firstOf, badLent, kindConditions, formConditions, ownConditions, refusal, upToZero, withRule, effect, obey, step, run}
+use Rattle.model.specs.Commands.{isKind, bodySize, commandAt, without, readAt, scopeOf, slotsOf}
+use Rattle.model.specs.Ledger.{NumberedRule, Ledger, LedgerShape, Member, bare, fresh, draftOr, lentConditions, kindConditions, formConditions, ownConditions, refusal, upToZero, withRule, effect, obey, step, run}
 use Rattle.model.specs.Laws.Tests.{or-false, none-passes, →every, T→, →T, none-some}
-
--- A LIST OF CONDITIONS whose first number is 0: none of them holds
-abbrev pub Passed : List (Bool × ℕ) → Type 0
-Passed [] = Unit {0}
-Passed (x ∷ xs) = (x .0 ≡ false) × Passed xs
-
-abbrev pub positive : List (Bool × ℕ) → Bool
-positive [] = true
-positive (x ∷ xs) = ltb 0 (x .1) && positive xs
-
-pub passed : (xs : List (Bool × ℕ)) → T (positive xs) → firstOf xs ≡ 0 → Passed xs
-passed [] t e = tt
-passed (x ∷ xs) t e = go (x .0) (ltb 0 (x .1)) refl t e (λ t e. passed xs t e)
-  where
-    go : (b c : Bool) → ltb 0 (x .1) ≡ c → T (c && positive xs) → cond b (x .1) (firstOf xs) ≡ 0 → (T (positive xs) → firstOf xs ≡ 0 → Passed xs) → (b ≡ false) × Passed xs
-    go true true q t e k = absurd (omega (arith, ltb-true 0 (x .1) q))
-    go false true q t e k = (refl, k t e)
-    go b false q t e k = absurd t
+use Rattle.layout.specs.Sizes.{Lent, badLent?, killersLength, rowsLength, slotsLength}
+use Rattle.tables.specs.Laws.Facts.{true-false}
+use Rattle.model.specs.Refusals.{firstOf, conditionOf}
+use Rattle.model.specs.Numbers as refused
+use Rattle.model.specs.Laws.Refusals.{none-holds, rest-passes}
 
 -- the lengths, where they are not refused
-pub lent-sizes : (lent : Lent) → badLent lent ≡ false → (lent .rows ≡ 16384) × (lent .killers ≡ 4096) × (lent .slots ≡ 1024)
+pub lent-sizes : (lent : Lent) → badLent? lent ≡ false → (lent .rows ≡ rowsLength) × (lent .killers ≡ killersLength) × (lent .slots ≡ slotsLength)
 lent-sizes lent e =
-    let all = and-eq-true-iff (eqb (lent .rows) 16384 && eqb (lent .killers) 4096) (eqb (lent .slots) 1024) .0 (not-false _ e) in
-    let two = and-eq-true-iff (eqb (lent .rows) 16384) (eqb (lent .killers) 4096) .0 (all .0) in
-    (eqb-true (lent .rows) 16384 (two .0), eqb-true (lent .killers) 4096 (two .1), eqb-true (lent .slots) 1024 (all .1))
+    let all = and-eq-true-iff (eqb (lent .rows) rowsLength && eqb (lent .killers) killersLength) (eqb (lent .slots) slotsLength) .0 (not-false _ e) in
+    let two = and-eq-true-iff (eqb (lent .rows) rowsLength) (eqb (lent .killers) killersLength) .0 (all .0) in
+    (eqb-true (lent .rows) rowsLength (two .0), eqb-true (lent .killers) killersLength (two .1), eqb-true (lent .slots) slotsLength (all .1))
 
 -- a board without rules
 pub none-there : (n p : ℕ) → _≡_ {A = Option Rule} (getD (replicate n none) p none) none
@@ -108,17 +94,21 @@ in-limits (zero ∷ ns) g c h = absurd (omega arith)
 in-limits (suc n ∷ ns) g zero h = (omega arith, g 0 (omega arith))
 in-limits (suc n ∷ ns) g (suc c) h = in-limits ns (λ i k. g (suc i) (omega arith)) c (le-of-suc-le-suc h)
 
+-- none of a kind's conditions holds, whatever its number
+abbrev Allowed : Ledger → Command → List ℕ → Type 0
+Allowed L c ns = (n : ℕ) → conditionOf n (kindConditions L c ns) ≡ false
+
 -- THE KINDS, each accepted
 module _ (L : Ledger) (shape : LedgerShape L) where
-  lift-shape : (n : ℕ) (ns : List ℕ) → Passed (kindConditions L (kind.Lift n) ns) → LedgerShape (effect L (kind.Lift n) ns)
-  lift-shape n ns q =
+  retract-shape : (n : ℕ) (ns : List ℕ) → Allowed L (kind.Retract n) ns → LedgerShape (effect L (kind.Retract n) ns)
+  retract-shape n ns good =
       record {
-        board = shape-with (L .board) n none (shape .board) (omega (arith, ltb-false 63 n (q .1 .0))) (λ r e. none-some e);
+        board = shape-with (L .board) n none (shape .board) (omega (arith, ltb-false 63 n (good refused.badNumber))) (λ r e. none-some e);
         draft = shape .draft;
       }
 
-  put-shape : (ns : List ℕ) → Passed (kindConditions L kind.Put ns) → LedgerShape (effect L kind.Put ns)
-  put-shape ns q = go (L .draft) refl (q .1 .0)
+  post-shape : (ns : List ℕ) → Allowed L kind.Post ns → LedgerShape (effect L kind.Post ns)
+  post-shape ns good = go (L .draft) refl (good refused.noDraft)
     where
       go : (o : Option NumberedRule) → L .draft ≡ o → isNone o ≡ false
           → LedgerShape (record { board = withRule (L .board) (draftOr o .number) (some (draftOr o .rule)); draft = none })
@@ -130,10 +120,10 @@ module _ (L : Ledger) (shape : LedgerShape L) where
             draft = λ x h. none-some h;
           }
 
-  board-shape : (ns : List ℕ) → length ns ≤ 32 → Passed (kindConditions L kind.Board ns) → LedgerShape (effect L kind.Board ns)
-  board-shape ns most q =
+  board-shape : (ns : List ℕ) → length ns ≤ 32 → Allowed L kind.Board ns → LedgerShape (effect L kind.Board ns)
+  board-shape ns most good =
       let e = or-false (eqb (getD ns 0 0) 0 || some? (length ns) (λ i. ltb 32 (getD ns i 0)))
-      (some? (length ns) (λ j. not (eqb (getD ns j 0) 0) && some? j (λ i. eqb (getD ns i 0) 0))) (q .0) .0 in
+      (some? (length ns) (λ j. not (eqb (getD ns j 0) 0) && some? j (λ i. eqb (getD ns i 0) 0))) (good refused.badCounts) .0 in
       let f = or-false (eqb (getD ns 0 0) 0) (some? (length ns) (λ i. ltb 32 (getD ns i 0))) e .1 in
       record {
         board = bare-shape (upToZero ns) (omega (arith, short ns))
@@ -141,56 +131,56 @@ module _ (L : Ledger) (shape : LedgerShape L) where
         draft = λ d h. none-some h;
       }
 
-  head-good : (h : Head) (ns : List ℕ) → Passed (kindConditions L (kind.Head h) ns) → GoodRule (L .board .counts) (record { calls = take (h .arity) (callsOf h); rows = [] })
-  head-good h ns q =
+  head-good : (h : Head) (ns : List ℕ) → Allowed L (kind.Head h) ns → GoodRule (L .board .counts) (record { scope = take (h .arity) (scopeOf h); rows = [] })
+  head-good h ns good =
       let a = h .arity in
-      let cs = callsOf h in
-      let limits = or-false (ltb a 1) (ltb 4 a) (q .1 .1 .0) in
+      let cs = scopeOf h in
+      let limits = or-false (ltb a 1) (ltb 4 a) (good refused.badArity) in
       let least : 1 ≤ a = ltb-false a 1 (limits .0) in
       let most : a ≤ 4 = ltb-false 4 a (limits .1) in
       let len : length (take a cs) ≡ a = length-take-le a cs (omega arith) in
       record {
         most = omega arith;
         least = omega arith;
-        calls = λ k lk.
+        scope = λ k lk.
             let below : k < a = omega arith in
             rw (getD-take a cs k 255 below)
-            (leb-false (length (L .board .counts)) (getD cs k 255) (none-passes a (λ k. leb (length (L .board .counts)) (getD cs k 255)) (q .1 .1 .1 .0) k below));
+            (leb-false (length (L .board .counts)) (getD cs k 255) (none-passes a (λ k. leb (length (L .board .counts)) (getD cs k 255)) (good refused.callOffBoard) k below));
         apart = λ j k jk lk.
             let below : k < a = omega arith in
             rw (getD-take a cs k 255 below, getD-take a cs j 255 (omega arith))
             (eqb-false (getD cs j 255) (getD cs k 255)
-            (none-passes k (λ j. eqb (getD cs j 255) (getD cs k 255)) (none-passes a (λ k. some? k (λ j. eqb (getD cs j 255) (getD cs k 255))) (q .1 .1 .1 .1 .0) k below) j jk));
+            (none-passes k (λ j. eqb (getD cs j 255) (getD cs k 255)) (none-passes a (λ k. some? k (λ j. eqb (getD cs j 255) (getD cs k 255))) (good refused.callTwice) k below) j jk));
         few = omega arith;
         width = λ w h. absurd (omega arith);
         slots = λ w k h. absurd (omega arith);
         rows = λ v w vw h. absurd (omega arith);
       }
 
-  head-shape : (h : Head) (ns : List ℕ) → Passed (kindConditions L (kind.Head h) ns) → LedgerShape (effect L (kind.Head h) ns)
-  head-shape h ns q =
+  head-shape : (h : Head) (ns : List ℕ) → Allowed L (kind.Head h) ns → LedgerShape (effect L (kind.Head h) ns)
+  head-shape h ns good =
       record {
         board = shape .board;
         draft = λ d e.
-            let g : record { number = h .number; rule = record { calls = take (h .arity) (callsOf h); rows = [] } } ≡ d = cc in
-            rw (← g) (omega (arith, ltb-false 63 (h .number) (q .1 .0)), head-good h ns q);
+            let g : record { number = h .number; rule = record { scope = take (h .arity) (scopeOf h); rows = [] } } ≡ d = cc in
+            rw (← g) (omega (arith, ltb-false 63 (h .number) (good refused.badNumber)), head-good h ns good);
       }
 
   -- a draft with one row more
-  row-good : (d : NumberedRule) (x : Row) (ns : List ℕ) → L .draft ≡ some d → Passed (kindConditions L (kind.Row x) ns)
-      → GoodRule (L .board .counts) (record { calls = d .rule .calls; rows = d .rule .rows ++ (take (length (d .rule .calls)) (slotsOf x) ∷ []) })
-  row-good d x ns is q =
+  row-good : (d : NumberedRule) (x : Row) (ns : List ℕ) → L .draft ≡ some d → Allowed L (kind.Row x) ns
+      → GoodRule (L .board .counts) (record { scope = d .rule .scope; rows = d .rule .rows ++ (take (length (d .rule .scope)) (slotsOf x) ∷ []) })
+  row-good d x ns is good =
       let r = d .rule in
-      let a = length (r .calls) in
+      let a = length (r .scope) in
       let ss = slotsOf x in
       let g = shape .draft d is .1 in
-      let room : length (r .rows) < 64 = leb-false 64 (length (r .rows)) (rw is at (q .1 .1 .0)) in
-      let on : some? a (λ k. leb (getD (L .board .counts) (callAt r k) 0) (getD ss k 255)) ≡ false = rw is at (q .1 .1 .1 .0) in
-      let new : some? (length (r .rows)) (λ v. every? a (λ k. eqb (slotAt r v k) (getD ss k 255))) ≡ false = rw is at (q .1 .1 .1 .1 .1 .0) in
+      let room : length (r .rows) < 64 = leb-false 64 (length (r .rows)) (rw is at (good refused.draftFull)) in
+      let on : some? a (λ k. leb (getD (L .board .counts) (callAt r k) 0) (getD ss k 255)) ≡ false = rw is at (good refused.slotOffCall) in
+      let new : some? (length (r .rows)) (λ v. every? a (λ k. eqb (slotAt r v k) (getD ss k 255))) ≡ false = rw is at (good refused.rowTwice) in
       record {
         most = g .most;
         least = g .least;
-        calls = g .calls;
+        scope = g .scope;
         apart = g .apart;
         few = omega (arith, length-append (r .rows) (take a ss ∷ []));
         width = snoc-all (λ (x : List ℕ). length x ≡ a) (r .rows) (take a ss) (g .width) (length-take-le a ss (omega (arith, g .most)));
@@ -206,28 +196,28 @@ module _ (L : Ledger) (shape : LedgerShape L) where
             (none-passes (length (r .rows)) (λ v. every? a (λ k. eqb (slotAt r v k) (getD ss k 255))) new v h)));
       }
 
-  row-shape : (x : Row) (ns : List ℕ) → Passed (kindConditions L (kind.Row x) ns) → LedgerShape (effect L (kind.Row x) ns)
-  row-shape x ns q = go (L .draft) refl (q .1 .0)
+  row-shape : (x : Row) (ns : List ℕ) → Allowed L (kind.Row x) ns → LedgerShape (effect L (kind.Row x) ns)
+  row-shape x ns good = go (L .draft) refl (good refused.noDraft)
     where
       grown : Option NumberedRule → NumberedRule
-      grown o = record { number = draftOr o .number; rule = record { calls = draftOr o .rule .calls; rows = draftOr o .rule .rows ++ (take (length (draftOr o .rule .calls)) (slotsOf x) ∷ []) } }
+      grown o = record { number = draftOr o .number; rule = record { scope = draftOr o .rule .scope; rows = draftOr o .rule .rows ++ (take (length (draftOr o .rule .scope)) (slotsOf x) ∷ []) } }
 
       go : (o : Option NumberedRule) → L .draft ≡ o → isNone o ≡ false → LedgerShape (record { board = L .board; draft = some (grown o) })
       go none e i = absurd (true≢false i)
       go (some d) e i =
-          record { board = shape .board; draft = λ d′ h. let g : grown (some d) ≡ d′ = cc in rw (← g) (shape .draft d e .0, row-good d x ns e q) }
+          record { board = shape .board; draft = λ d′ h. let g : grown (some d) ≡ d′ = cc in rw (← g) (shape .draft d e .0, row-good d x ns e good) }
 
   -- a command that none of its own conditions refuses
   pub effect-shape : (c : Command) (ns : List ℕ) → length ns ≤ 32 → firstOf (kindConditions L c ns) ≡ 0 → LedgerShape (effect L c ns)
-  effect-shape kind.Board ns most e = board-shape ns most (passed (kindConditions L kind.Board ns) tt e)
-  effect-shape (kind.Head h) ns most e = head-shape h ns (passed (kindConditions L (kind.Head h) ns) tt e)
-  effect-shape (kind.Row x) ns most e = row-shape x ns (passed (kindConditions L (kind.Row x) ns) tt e)
-  effect-shape kind.Put ns most e = put-shape ns (passed (kindConditions L kind.Put ns) tt e)
-  effect-shape (kind.Lift n) ns most e = lift-shape n ns (passed (kindConditions L (kind.Lift n) ns) tt e)
+  effect-shape kind.Board ns most e = board-shape ns most (none-holds (kindConditions L kind.Board ns) tt e)
+  effect-shape (kind.Head h) ns most e = head-shape h ns (none-holds (kindConditions L (kind.Head h) ns) tt e)
+  effect-shape (kind.Row x) ns most e = row-shape x ns (none-holds (kindConditions L (kind.Row x) ns) tt e)
+  effect-shape kind.Post ns most e = post-shape ns (none-holds (kindConditions L kind.Post ns) tt e)
+  effect-shape (kind.Retract n) ns most e = retract-shape n ns (none-holds (kindConditions L (kind.Retract n) ns) tt e)
 
 -- the counts beside what is read are never more than 32
 pub counts-most : (s : List ℕ) (at : ℕ) → length (readAt s at .counts) ≤ 32
-counts-most s at = go (leb (length s) at) (isKind (getD s at 0)) (leb (at + 1 + bodyLength (getD s at 0)) (length s)) (eqb (getD s at 0) 1)
+counts-most s at = go (leb (length s) at) (isKind (getD s at 0)) (leb (at + 1 + bodySize (getD s at 0)) (length s)) (eqb (getD s at 0) 1)
   where
     taken : (b : Bool) → length (cond b (take 32 (drop (at + 1) s)) (replicate 32 0)) ≤ 32
     taken true = omega (arith, length-take 32 (drop (at + 1) s))
@@ -237,24 +227,13 @@ counts-most s at = go (leb (length s) at) (isKind (getD s at 0)) (leb (at + 1 + 
         → length ((cond a (without found.End at)
         (cond b
         (cond c
-        (record { read = found.Command (commandAt s (getD s at 0) (at + 1)); counts = cond d (take 32 (drop (at + 1) s)) (replicate 32 0); next = at + 1 + bodyLength (getD s at 0) })
-        (without (found.Refused (getD s at 0) 4) at))
-        (without (found.Refused (getD s at 0) 3) at))) .counts) ≤ 32
+        (record { read = found.Command (commandAt s (getD s at 0) (at + 1)); counts = cond d (take 32 (drop (at + 1) s)) (replicate 32 0); next = at + 1 + bodySize (getD s at 0) })
+        (without (found.Refused (getD s at 0) refused.bodyLength) at))
+        (without (found.Refused (getD s at 0) refused.unknownKind) at))) .counts) ≤ 32
     go true b c d = omega arith
     go false true true d = taken d
     go false true false d = omega arith
     go false false c d = omega arith
-
--- a list of conditions that is passed is passed in both its parts
-pub first-append : (xs ys : List (Bool × ℕ)) → T (positive xs) → firstOf (xs ++ ys) ≡ 0 → (firstOf xs ≡ 0) × (firstOf ys ≡ 0)
-first-append [] ys t e = (refl, e)
-first-append (x ∷ xs) ys t e = go (x .0) (ltb 0 (x .1)) refl t e (λ t e. first-append xs ys t e)
-  where
-    go : (b c : Bool) → ltb 0 (x .1) ≡ c → T (c && positive xs) → cond b (x .1) (firstOf (xs ++ ys)) ≡ 0
-        → (T (positive xs) → firstOf (xs ++ ys) ≡ 0 → (firstOf xs ≡ 0) × (firstOf ys ≡ 0)) → (cond b (x .1) (firstOf xs) ≡ 0) × (firstOf ys ≡ 0)
-    go true true q t e k = absurd (omega (arith, ltb-true 0 (x .1) q))
-    go false true q t e k = k t e
-    go b false q t e k = absurd t
 
 -- EVERY COMMAND, from its bytes
 pub shape-step : (L : Ledger) (lent : Lent) (bytes : List ℕ) → LedgerShape L → LedgerShape (step L lent bytes)
@@ -264,11 +243,12 @@ shape-step L lent bytes shape = go (readAt bytes 0 .read) (counts-most bytes 0) 
     ns = readAt bytes 0 .counts
 
     own : Read → ℕ
-    own r = firstOf ((badLent lent, 1) ∷ formConditions r (ltb (readAt bytes 0 .next) (length bytes)) ++ ownConditions L r ns)
+    own r = firstOf ((lentConditions lent ++ formConditions r (ltb (readAt bytes 0 .next) (length bytes))) ++ ownConditions L r ns)
 
     go : (r : Read) → length ns ≤ 32 → (n : ℕ) → own r ≡ n → LedgerShape (obey n L r ns)
     go (found.Command c) most zero e =
-        effect-shape L shape c ns most (first-append ((badLent lent, 1) ∷ (ltb (readAt bytes 0 .next) (length bytes), 4) ∷ []) (kindConditions L c ns) tt e .1)
+        effect-shape L shape c ns most
+        (rest-passes (lentConditions lent ++ formConditions (found.Command c) (ltb (readAt bytes 0 .next) (length bytes))) (kindConditions L c ns) tt e)
     go (found.Command c) most (suc n) e = shape
     go (found.Refused k m) most zero e = shape
     go (found.Refused k m) most (suc n) e = shape

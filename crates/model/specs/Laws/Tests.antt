@@ -8,8 +8,8 @@ use Prim.Native.Nat.{ℕ, zero, suc, _<_, _≤_, _+_}
 use native.Mathlib.Omega.{arith}
 use native.Mathlib.Nat.{eq-or-lt-of-le, le-of-suc-le-suc}
 use lib.Dec.{T, eqb, eqb→eq, eqb-refl}
-use Rattle.tables.specs.Facts.{true-false, lt-or-le}
-use Rattle.model.specs.Tests.{some?, every?, count, has, keepOnly, upFrom}
+use Rattle.model.specs.Tests.{some?, every?, countBelow, has, keepOnly, upFrom}
+use Rattle.tables.specs.Laws.Facts.{true-false, lt-or-le}
 
 -- joined tests
 pub and→ : (a b : Bool) → T (a && b) → T a × T b
@@ -95,7 +95,7 @@ pub →every : (n : ℕ) (f : ℕ → Bool) → ((i : ℕ) → i < n → T (f i)
 →every (suc n) f all = →and (every? n f) (f n) (→every n f (λ i h. all i (omega arith))) (all n (omega arith))
 
 -- tests that agree below n count alike
-pub count-same : (n : ℕ) (f g : ℕ → Bool) → ((i : ℕ) → i < n → f i ≡ g i) → count n f ≡ count n g
+pub count-same : (n : ℕ) (f g : ℕ → Bool) → ((i : ℕ) → i < n → f i ≡ g i) → countBelow n f ≡ countBelow n g
 count-same zero f g same = refl
 count-same (suc n) f g same = let e = count-same n f g (λ i h. same i (omega arith)) in let d = same n (omega arith) in rw (e, d) refl
 

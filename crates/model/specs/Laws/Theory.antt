@@ -9,23 +9,23 @@ use native.Mathlib.Omega.{arith}
 use native.Mathlib.Decide.{decLt}
 use lib.ListN.{length, getD, List·getD-eq-default}
 use lib.Dec.{T, ltb→lt, lt→ltb}
-use Rattle.tables.specs.Facts.{eq-or-ne, find-below, decide-both}
-use Rattle.model.specs.Board.{Rule, Board, callAt, slotAt, OnBoard, InForce, counts?, Counts, OnCall, Holds, Supported, SelfSupporting, Passing, Viable, Alive, Dead, Same, AtLeast, FullPlan, Shape}
+use Rattle.model.specs.Board.{Rule, Board, callAt, slotAt, OnBoard, InForce, active?, Active, InScope, Holds, Supported, SelfSupporting, Passing, Viable, Alive, Dead, Same, AtLeast, FullPlan, Shape}
 use Rattle.model.specs.Records.{Open, Struck, Caused, KillerIn, RingAt, Ring, NoRing, Escape, EscapeFromAll, Grounded, because, Recorded}
 use Rattle.model.specs.Laws.Tests.{T?, <?, none-some}
+use Rattle.tables.specs.Laws.Facts.{eq-or-ne, find-below, decide-both}
 
 -- LAWS OF THE COLUMNS THAT COUNT. The rest of the theory goes by these
-pub counts-below : (B : Board) (r : Rule) (k : ℕ) → Counts B r k → k < length (r .calls)
-unfolding counts?
-counts-below B r k t = ltb→lt k (length (r .calls)) t
+pub active-below : (B : Board) (r : Rule) (k : ℕ) → Active B r k → k < length (r .scope)
+unfolding active?
+active-below B r k t = ltb→lt k (length (r .scope)) t
 
-pub below-counts : (B : Board) (r : Rule) (k : ℕ) → k < length (r .calls) → Counts B r k
-unfolding counts?
-below-counts B r k h = lt→ltb k (length (r .calls)) h
+pub below-active : (B : Board) (r : Rule) (k : ℕ) → k < length (r .scope) → Active B r k
+unfolding active?
+below-active B r k h = lt→ltb k (length (r .scope)) h
 
 -- a column counts on two boards alike, and for two rules with the same calls
-pub counts-same : (B B′ : Board) (r r′ : Rule) (k : ℕ) → r .calls ≡ r′ .calls → Counts B r k → Counts B′ r′ k
-counts-same B B′ r r′ k e t = below-counts B′ r′ k (rw e at (counts-below B r k t))
+pub active-same : (B B′ : Board) (r r′ : Rule) (k : ℕ) → r .scope ≡ r′ .scope → Active B r k → Active B′ r′ k
+active-same B B′ r r′ k e t = below-active B′ r′ k (rw e at (active-below B r k t))
 
 -- two rules in force under one number are one
 pub one-rule : (B : Board) (p : ℕ) {r r′ : Rule} → InForce B p r → InForce B p r′ → r ≡ r′
@@ -50,14 +50,14 @@ self-along B A C to from self =
     }
 
 holds? : (B : Board) (r : Rule) (w c s : ℕ) → Holds B r w c s ⊎ (Holds B r w c s → ⊥)
-holds? B r w c s = go (find-below Has (λ k. decide-both (T? (counts? B r k)) (decide-both (eq-or-ne (callAt r k) c) (eq-or-ne (slotAt r w k) s))) (length (r .calls)))
+holds? B r w c s = go (find-below Has (λ k. decide-both (T? (active? B r k)) (decide-both (eq-or-ne (callAt r k) c) (eq-or-ne (slotAt r w k) s))) (length (r .scope)))
   where
     Has : ℕ → Type 0
-    Has k = Counts B r k × ((callAt r k ≡ c) × (slotAt r w k ≡ s))
+    Has k = Active B r k × ((callAt r k ≡ c) × (slotAt r w k ≡ s))
 
-    go : ((k : ℕ) × (k < length (r .calls)) × Has k) ⊎ ((k : ℕ) → k < length (r .calls) → Has k → ⊥) → Holds B r w c s ⊎ (Holds B r w c s → ⊥)
-    go (inl t) = inl (record { column = t .0; counts = t .2 .0; call = t .2 .1 .0; slot = t .2 .1 .1 })
-    go (inr n) = inr (λ h. n (h .column) (counts-below B r (h .column) (h .counts)) (h .counts, (h .call, h .slot)))
+    go : ((k : ℕ) × (k < length (r .scope)) × Has k) ⊎ ((k : ℕ) → k < length (r .scope) → Has k → ⊥) → Holds B r w c s ⊎ (Holds B r w c s → ⊥)
+    go (inl t) = inl (record { column = t .0; active = t .2 .0; call = t .2 .1 .0; slot = t .2 .1 .1 })
+    go (inr n) = inr (λ h. n (h .column) (active-below B r (h .column) (h .active)) (h .active, (h .call, h .slot)))
 
 -- a self-supporting set whose members can be told makes its slots viable
 passes : {A : Type 0} → A ⊎ (A → ⊥) → Bool
@@ -84,36 +84,36 @@ viable-of B A test self c s a =
     }
 
 -- A GROUNDED SLOT is in no self-supporting set
-pub grounded-out : (B : Board) (mark killer : ℕ → ℕ → ℕ) {c s : ℕ} → Grounded B mark killer c s → (A : ℕ → ℕ → Type 0) → SelfSupporting B A → A c s → ⊥
-grounded-out B mark killer {c} {s} (because r f o k g) A self a =
-    let u : Supported B A r c s = self .support c s a (mark c s) r f o in
-    grounded-out B mark killer (g (u .row) (u .inside) (u .holds)) A self (u .within (killer (mark c s) (u .row)) (k (u .row) (u .inside) (u .holds)))
+pub grounded-out : (B : Board) (cause killer : ℕ → ℕ → ℕ) {c s : ℕ} → Grounded B cause killer c s → (A : ℕ → ℕ → Type 0) → SelfSupporting B A → A c s → ⊥
+grounded-out B cause killer {c} {s} (because r f o k g) A self a =
+    let u : Supported B A r c s = self .support c s a (cause c s) r f o in
+    grounded-out B cause killer (g (u .row) (u .inside) (u .holds)) A self (u .within (killer (cause c s) (u .row)) (k (u .row) (u .inside) (u .holds)))
 
 -- NO RING has a grounded slot
-grounded-no-ring : (B : Board) (mark killer : ℕ → ℕ → ℕ) (E : ℕ → ℕ → Type 0) → ((c s : ℕ) → E c s → RingAt B mark killer E c s)
-    → {c s : ℕ} → Grounded B mark killer c s → E c s → ⊥
-grounded-no-ring B mark killer E ring {c} {s} (because r f o k g) e =
-    let u : RingAt B mark killer E c s = ring c s e in
-    let q : u .rule ≡ r = one-rule B (mark c s) (u .force) f in
-    grounded-no-ring B mark killer E ring (g (u .row) (rw q at (u .inside)) (rw q at (u .holds))) (rw q at (u .killed .member))
+grounded-no-ring : (B : Board) (cause killer : ℕ → ℕ → ℕ) (E : ℕ → ℕ → Type 0) → ((c s : ℕ) → E c s → RingAt B cause killer E c s)
+    → {c s : ℕ} → Grounded B cause killer c s → E c s → ⊥
+grounded-no-ring B cause killer E ring {c} {s} (because r f o k g) e =
+    let u : RingAt B cause killer E c s = ring c s e in
+    let q : u .rule ≡ r = one-rule B (cause c s) (u .force) f in
+    grounded-no-ring B cause killer E ring (g (u .row) (rw q at (u .inside)) (rw q at (u .holds))) (rw q at (u .killed .member))
 
 -- and from a set with a grounded slot the killers lead out
-grounded-escape : (B : Board) (mark killer : ℕ → ℕ → ℕ) (Z : ℕ → ℕ → Bool) {c s : ℕ} → Grounded B mark killer c s → T (Z c s) → Escape B mark killer (Passing Z)
-grounded-escape B mark killer Z {c} {s} (because r f o k g) z =
-    go (λ w h hd kz. grounded-escape B mark killer Z (g w h hd) kz)
-    (find-below Inner (λ w. decide-both (holds? B r w c s) (T? (Z (callAt r (killer (mark c s) w)) (slotAt r w (killer (mark c s) w))))) (length (r .rows)))
+grounded-escape : (B : Board) (cause killer : ℕ → ℕ → ℕ) (Z : ℕ → ℕ → Bool) {c s : ℕ} → Grounded B cause killer c s → T (Z c s) → Escape B cause killer (Passing Z)
+grounded-escape B cause killer Z {c} {s} (because r f o k g) z =
+    go (λ w h hd kz. grounded-escape B cause killer Z (g w h hd) kz)
+    (find-below Inner (λ w. decide-both (holds? B r w c s) (T? (Z (callAt r (killer (cause c s) w)) (slotAt r w (killer (cause c s) w))))) (length (r .rows)))
   where
     Inner : ℕ → Type 0
-    Inner w = Holds B r w c s × T (Z (callAt r (killer (mark c s) w)) (slotAt r w (killer (mark c s) w)))
+    Inner w = Holds B r w c s × T (Z (callAt r (killer (cause c s) w)) (slotAt r w (killer (cause c s) w)))
 
-    go : ((w : ℕ) → w < length (r .rows) → Holds B r w c s → T (Z (callAt r (killer (mark c s) w)) (slotAt r w (killer (mark c s) w))) → Escape B mark killer (Passing Z))
+    go : ((w : ℕ) → w < length (r .rows) → Holds B r w c s → T (Z (callAt r (killer (cause c s) w)) (slotAt r w (killer (cause c s) w))) → Escape B cause killer (Passing Z))
         → ((w : ℕ) × (w < length (r .rows)) × Inner w) ⊎ ((w : ℕ) → w < length (r .rows) → Inner w → ⊥)
-        → Escape B mark killer (Passing Z)
+        → Escape B cause killer (Passing Z)
     go again (inl t) = again (t .0) (t .1) (t .2 .0) (t .2 .1)
     go again (inr n) =
         record { call = c; slot = s; member = z; outside = record { rule = r; force = f; out = λ w h hd. record { column = k w h hd; member = λ kz. n w h (hd, kz) } } }
 
--- A FULL PLAN uses only viable slots
+-- A FULL PLAN uses only viable slots (SCOPE 6.13)
 pub plan-viable : (B : Board) (plan : ℕ → ℕ) → Shape B → FullPlan B plan → (c : ℕ) → c < length (B .counts) → Viable B c (plan c)
 plan-viable B plan shape full c h = viable-of B Used (λ c s. decide-both (<? c (length (B .counts))) (eq-or-ne (plan c) s)) self c (plan c) (h, refl)
   where
@@ -128,40 +128,40 @@ plan-viable B plan shape full c h = viable-of B Used (λ c s. decide-both (<? c 
               record {
                 row = t .0;
                 inside = t .1;
-                holds = record { column = o .column; counts = o .counts; call = o .call; slot = cc (t .2 (o .column) (o .counts), ap plan (o .call)) };
-                within = λ k h. (shape .rules p r f .calls k (counts-below B r k h), sym (t .2 k h));
+                holds = record { column = o .column; active = o .active; call = o .call; slot = cc (t .2 (o .column) (o .active), ap plan (o .call)) };
+                within = λ k h. (shape .rules p r f .scope k (active-below B r k h), sym (t .2 k h));
               };
         }
 
 -- WHAT THE RECORDS GIVE
-module _ (B : Board) (mark killer : ℕ → ℕ → ℕ) (known : Recorded B mark killer) where
+module _ (B : Board) (cause killer : ℕ → ℕ → ℕ) (known : Recorded B cause killer) where
   -- the open slots are the largest self-supporting set, also among sets that have no test
-  pub largest : (A : ℕ → ℕ → Type 0) → SelfSupporting B A → (c s : ℕ) → A c s → Open B mark c s
+  pub largest : (A : ℕ → ℕ → Type 0) → SelfSupporting B A → (c s : ℕ) → A c s → Open B cause c s
   largest A self c s a = let on = self .slots c s a in go on (known .sound .either c s on)
     where
-      go : OnBoard B c s → (mark c s ≡ 255) ⊎ (mark c s < 64) → Open B mark c s
+      go : OnBoard B c s → (cause c s ≡ 255) ⊎ (cause c s < 64) → Open B cause c s
       go on (inl e) = (on, e)
-      go on (inr h) = absurd (grounded-out B mark killer (known .sound .grounded c s (on, h)) A self a)
+      go on (inr h) = absurd (grounded-out B cause killer (known .sound .grounded c s (on, h)) A self a)
 
-  pub open-viable : (c s : ℕ) → Open B mark c s ↔ Viable B c s
+  pub open-viable : (c s : ℕ) → Open B cause c s ↔ Viable B c s
   open-viable c s = (
-    viable-of B (Open B mark) (λ c s. decide-both (<? s (getD (B .counts) c 0)) (eq-or-ne (mark c s) 255)) (known .self) c s,
+    viable-of B (Open B cause) (λ c s. decide-both (<? s (getD (B .counts) c 0)) (eq-or-ne (cause c s) 255)) (known .self) c s,
     λ v. largest (Passing (v .set)) (v .self) c s (v .has),
   )
 
-  -- each struck slot's cause is a rule in force on its call
-  pub struck-caused : (c s : ℕ) → Struck B mark c s → Caused B mark c s
+  -- the cause of a struck slot is what SCOPE 1.12 says
+  pub struck-caused : (c s : ℕ) → Struck B cause c s → Caused B cause c s
   struck-caused c s h = go (known .sound .grounded c s h)
     where
-      go : Grounded B mark killer c s → Caused B mark c s
+      go : Grounded B cause killer c s → Caused B cause c s
       go (because r f o k g) = record { rule = r; force = f; call = o }
 
   -- a row is alive and has no killer, or is dead and its killer is the column of a struck slot in it
   pub row-records : (p : ℕ) (r : Rule) → InForce B p r → (w : ℕ) → w < length (r .rows)
-      → ((killer p w ≡ 255) × Alive B r w) ⊎ (KillerIn B killer (Struck B mark) r p w × Dead B r w)
+      → ((killer p w ≡ 255) × Alive B r w) ⊎ (KillerIn B killer (Struck B cause) r p w × Dead B r w)
   row-records p r f w h = go (known .sound .killers p r f w h)
     where
-      dead : KillerIn B killer (Struck B mark) r p w → Dead B r w
+      dead : KillerIn B killer (Struck B cause) r p w → Dead B r w
       dead k alive =
           let c = callAt r (killer p w) in
           let s = slotAt r w (killer p w) in
@@ -169,27 +169,27 @@ module _ (B : Board) (mark killer : ℕ → ℕ → ℕ) (known : Recorded B mar
           let lt = k .member .1 in
           omega (arith, o .1)
 
-      go : (killer p w ≡ 255) ⊎ KillerIn B killer (Struck B mark) r p w → ((killer p w ≡ 255) × Alive B r w) ⊎ (KillerIn B killer (Struck B mark) r p w × Dead B r w)
+      go : (killer p w ≡ 255) ⊎ KillerIn B killer (Struck B cause) r p w → ((killer p w ≡ 255) × Alive B r w) ⊎ (KillerIn B killer (Struck B cause) r p w × Dead B r w)
       go (inl e) = inl (e, λ k h′. open-viable (callAt r k) (slotAt r w k) .0 (known .alive p r f w h e k h′))
       go (inr k) = inr (k, dead k)
 
   -- no ring, in the words of a ring: also of sets that have no test
-  pub rings-empty : (E : ℕ → ℕ → Type 0) → Ring B mark killer E → ⊥
+  pub rings-empty : (E : ℕ → ℕ → Type 0) → Ring B cause killer E → ⊥
   rings-empty E ring =
-      grounded-no-ring B mark killer E (ring .each) (known .sound .grounded (ring .call) (ring .slot) (ring .each (ring .call) (ring .slot) (ring .member) .struck)) (ring .member)
+      grounded-no-ring B cause killer E (ring .each) (known .sound .grounded (ring .call) (ring .slot) (ring .each (ring .call) (ring .slot) (ring .member) .struck)) (ring .member)
 
-  pub no-ring : NoRing B mark killer
+  pub no-ring : NoRing B cause killer
   no-ring E = rings-empty (Passing E)
 
   -- and in the words of a way out
-  pub escape-from-all : EscapeFromAll B mark killer
-  escape-from-all Z struck c s z = grounded-escape B mark killer Z (known .sound .grounded c s (struck c s z)) z
+  pub escape-from-all : EscapeFromAll B cause killer
+  escape-from-all Z struck c s z = grounded-escape B cause killer Z (known .sound .grounded c s (struck c s z)) z
 
   -- a full plan uses only open slots
-  pub plan-open : (plan : ℕ → ℕ) → Shape B → FullPlan B plan → (c : ℕ) → c < length (B .counts) → Open B mark c (plan c)
+  pub plan-open : (plan : ℕ → ℕ) → Shape B → FullPlan B plan → (c : ℕ) → c < length (B .counts) → Open B cause c (plan c)
   plan-open plan shape full c h = open-viable c (plan c) .1 (plan-viable B plan shape full c h)
 
--- FEWER RULES, NO FEWER OPEN SLOTS
+-- FEWER RULES, NO FEWER OPEN SLOTS (SCOPE 6.14)
 supported-same : (B B′ : Board) (A : ℕ → ℕ → Type 0) (r r′ : Rule) → Same r r′ → (c s : ℕ) → Supported B′ A r′ c s → Supported B A r c s
 supported-same B B′ A r r′ same c s u =
     let b = same .back (u .row) (u .inside) in
@@ -199,16 +199,16 @@ supported-same B B′ A r r′ same c s u =
       inside = b .1;
       holds = record {
         column = h .column;
-        counts = counts-same B′ B r′ r (h .column) (sym (same .calls)) (h .counts);
-        call = rw (same .calls) (h .call);
+        active = active-same B′ B r′ r (h .column) (sym (same .scope)) (h .active);
+        call = rw (same .scope) (h .call);
         slot = rw (← b .2) (h .slot);
       };
-      within = λ k t. rw (same .calls, ← b .2) (u .within k (counts-same B B′ r r′ k (same .calls) t));
+      within = λ k t. rw (same .scope, ← b .2) (u .within k (active-same B B′ r r′ k (same .scope) t));
     }
 
-on-same : (B B′ : Board) {r r′ : Rule} {c : ℕ} → Same r r′ → OnCall B r c → OnCall B′ r′ c
+on-same : (B B′ : Board) {r r′ : Rule} {c : ℕ} → Same r r′ → InScope B r c → InScope B′ r′ c
 on-same B B′ {r} {r′} same o =
-    record { column = o .column; counts = counts-same B B′ r r′ (o .column) (same .calls) (o .counts); call = rw (same .calls) at (o .call) }
+    record { column = o .column; active = active-same B B′ r r′ (o .column) (same .scope) (o .active); call = rw (same .scope) at (o .call) }
 
 pub viable-mono : (B B′ : Board) → AtLeast B B′ → (c s : ℕ) → Viable B′ c s → Viable B c s
 viable-mono B B′ more c s v =
@@ -222,8 +222,8 @@ viable-mono B B′ more c s v =
       };
     }
 
--- A CALL WITHOUT RULES IS WHOLLY OPEN
-pub free-call : (B : Board) (c : ℕ) → ((p : ℕ) (r : Rule) → InForce B p r → OnCall B r c → ⊥) → (s : ℕ) → OnBoard B c s → Viable B c s
+-- EVERY SLOT OF A CALL WITHOUT RULES IS OPEN (SCOPE 1.8)
+pub free-call : (B : Board) (c : ℕ) → ((p : ℕ) (r : Rule) → InForce B p r → InScope B r c → ⊥) → (s : ℕ) → OnBoard B c s → Viable B c s
 free-call B c free s on = viable-of B Own (λ d t. decide-both (eq-or-ne d c) (<? t (getD (B .counts) d 0))) self c s (refl, on)
   where
     Own : ℕ → ℕ → Type 0

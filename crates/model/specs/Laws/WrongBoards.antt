@@ -1,5 +1,5 @@
--- WHAT THE PROMISE TURNS AWAY. For each wrong board of document 01, "What a contract here has to say", c, and for the wrong turns that P3, P4 and P5 show: no
--- state and answer after a sample's commands meet both the promise and the wrong behaviour. Assumes nothing.
+-- WHAT THE PROMISE TURNS AWAY. For each wrong board of SCOPE 10.3, and for the wrong turns of SCOPE 9 that P3, P4 and P5 show: no state and answer after a
+-- sample's commands meet both the promise and the wrong behaviour. Assumes nothing.
 use mathlib.Core.Path.{_≡_, refl, sym, ap, subst, _∙_}
 use mathlib.Core.Bool.{Bool, true, false, true≢false, not, _&&_}
 use mathlib.Core.List.{List, [], _∷_, map}
@@ -14,18 +14,17 @@ use Rattle.model.specs.declared.answer.Answer.{Answer}
 use Rattle.model.specs.declared.answer.Answer.the-variants as answer
 use Rattle.model.specs.declared.answer.OpenSlots.{OpenSlots}
 use Rattle.model.specs.declared.answer.Support.the-variants as support
-use Rattle.model.specs.Board.{Rule, Board, callAt, slotAt, OnBoard, counts?}
+use Rattle.model.specs.Board.{Rule, Board, callAt, slotAt, OnBoard, active?}
 use Rattle.model.specs.Records.{Struck, Grounded, because}
-use Rattle.model.specs.Tests.{count}
-use Rattle.model.specs.Filter.{in?, onCall?, all?, openOf}
+use Rattle.model.specs.Tests.{countBelow}
+use Rattle.model.specs.Filter.{in?, inScope?, all?, openOf}
 use Rattle.model.specs.Commands.{readAt}
-use Rattle.model.specs.Ledger.{LedgerShape, Lent, Member, firstOf, refusal, step}
-use Rattle.model.specs.Report.{markOf, open?}
-use Rattle.model.specs.Representation.{State, lentOf, killerOf, Represents, freshState, ruleAt}
-use Rattle.model.specs.Promise.{Promise, Answered, ReportsOf, valuesAt, reportValues}
+use Rattle.model.specs.Ledger.{LedgerShape, refusal, step}
+use Rattle.model.specs.Report.{open?}
+use Rattle.model.specs.Representation.{Represents, ruleAt}
+use Rattle.model.specs.Promise.{Answered, ReportsOf, valuesAt, reportValues}
 use Rattle.model.specs.Questions.{maskOf, callConditions, slotsValues, SlotsPromise, supportConditions, SupportPromise}
-use Rattle.model.specs.Lists.{Runs, Turn}
-use Rattle.model.specs.Samples.{Outcome, Sample, Right, member, lengths, ledgerBefore, ledgerLast, p1, p2, p3, p4Lift, p5, p6}
+use Rattle.model.specs.Samples.{Outcome, Sample, Right, member, lengths, ledgerBefore, ledgerLast, p1, p2, p3, p4Retract, p5, p6}
 use Rattle.model.specs.Laws.Tests.{→and}
 use Rattle.model.specs.Laws.Theory.{one-rule, numbered}
 use Rattle.model.specs.Laws.Filter.{found-viable, within→, →onCall, all→}
@@ -34,6 +33,11 @@ use Rattle.model.specs.Laws.Answers.{accepted-by}
 use Rattle.model.specs.Laws.Shapes.{shape-step}
 use Rattle.model.specs.Laws.Samples.{samples-right}
 use Rattle.model.specs.Laws.Reports.{open-in, struck-between, reopened-between}
+use Rattle.layout.specs.Places.{causeOf, killerOf}
+use Rattle.layout.specs.Memory.{State, lentOf}
+use Rattle.layout.specs.Sizes.{Lent}
+use Rattle.model.specs.WrongBoards.{Last}
+use Rattle.model.specs.Refusals.{firstOf}
 
 -- two tests that differ
 abbrev differ : Bool → Bool → Bool
@@ -54,20 +58,15 @@ mask-same (suc n) f g same = let e = mask-same n f g (λ i h. same i (omega arit
 -- a rule on calls 0 and 2
 abbrev onBoth : Board → Option Rule → Bool
 onBoth B none = false
-onBoth B (some r) = onCall? B r 0 && onCall? B r 2
+onBoth B (some r) = inScope? B r 0 && inScope? B r 2
 
 -- where no rule is on both calls, a slot of call 0 and one of call 2 have two causes
-two-causes : (B : Board) (mark killer : ℕ → ℕ → ℕ) {a b : ℕ} → T (all? (λ o. not (onBoth B o)) (B .rules)) → Grounded B mark killer 0 a → Grounded B mark killer 2 b
-    → mark 0 a ≡ mark 2 b → ⊥
-two-causes B mark killer {a} {b} none-on-both (because r f o k g) (because r′ f′ o′ k′ g′) same =
-    let one : r′ ≡ r = one-rule B (mark 0 a) (rw (← same) at f′) f in
-    let out : T (not (onBoth B (some r))) = rw f at (all→ (λ o. not (onBoth B o)) (B .rules) none-on-both (mark 0 a) (numbered B (mark 0 a) r f)) in
-    T-not (onCall? B r 0 && onCall? B r 2) out (→and (onCall? B r 0) (onCall? B r 2) (→onCall B r 0 o) (→onCall B r 2 (rw one at o′)))
-
--- A SAMPLE'S LAST COMMAND, on any state that its other commands reach by the promise, with any answer and state after it that the promise allows
-pub record Last (x : Sample) (s : State) (given : Answer) (s′ : State) : Type 0 where
-  pub reached : Runs State Member Turn freshState (map member (x .before)) s
-  pub promise : Promise s (x .last) given s′
+two-causes : (B : Board) (cause killer : ℕ → ℕ → ℕ) {a b : ℕ} → T (all? (λ o. not (onBoth B o)) (B .rules)) → Grounded B cause killer 0 a → Grounded B cause killer 2 b
+    → cause 0 a ≡ cause 2 b → ⊥
+two-causes B cause killer {a} {b} none-on-both (because r f o k g) (because r′ f′ o′ k′ g′) same =
+    let one : r′ ≡ r = one-rule B (cause 0 a) (rw (← same) at f′) f in
+    let out : T (not (onBoth B (some r))) = rw f at (all→ (λ o. not (onBoth B o)) (B .rules) none-on-both (cause 0 a) (numbered B (cause 0 a) r f)) in
+    T-not (inScope? B r 0 && inScope? B r 2) out (→and (inScope? B r 0) (inScope? B r 2) (→onCall B r 0 o) (→onCall B r 2 (rw one at o′)))
 
 module _ (x : Sample) (s : State) (given : Answer) (s′ : State) (last : Last x s given s′) where
   is : IsOf (ledgerBefore x) s
@@ -87,10 +86,10 @@ module _ (x : Sample) (s : State) (given : Answer) (s′ : State) (last : Last x
   after = subst (λ (l : Lent). Represents (step (ledgerBefore x) l (x .last)) s′) lent (answered .represents)
 
   -- a byte is 255 where the sample says open, and only there
-  opens : Right x → (c t : ℕ) → c < 32 → t < 32 → T (in? (x .outcome .left) c t) → markOf (s′ .slots) c t ≡ 255
+  opens : Right x → (c t : ℕ) → c < 32 → t < 32 → T (in? (x .outcome .left) c t) → causeOf (s′ .slots) c t ≡ 255
   opens right c t lc lt i = after .stored .viable c t lc lt .1 (right .viable c t .0 i)
 
-  closes : Right x → (c t : ℕ) → c < 32 → t < 32 → T (not (in? (x .outcome .left) c t)) → markOf (s′ .slots) c t ≢ 255
+  closes : Right x → (c t : ℕ) → c < 32 → t < 32 → T (not (in? (x .outcome .left) c t)) → causeOf (s′ .slots) c t ≢ 255
   closes right c t lc lt n e = T-not (in? (x .outcome .left) c t) n (right .viable c t .1 (after .stored .viable c t lc lt .0 e))
 
   -- the answer is the one that the sample's refusal decides
@@ -102,10 +101,10 @@ module _ (x : Sample) (s : State) (given : Answer) (s′ : State) (last : Last x
       accepted-by given (answered .report) (answered .values ∙ ap (λ (n : ℕ). valuesAt n (reportValues (answered .report))) (refusal-is right ∙ accepted))
 
   -- a slot of the board that the sample says is closed is struck
-  strikes : Right x → (c t : ℕ) → c < 32 → t < 32 → OnBoard (ledgerLast x .board) c t → T (not (in? (x .outcome .left) c t)) → Struck (ledgerLast x .board) (markOf (s′ .slots)) c t
+  strikes : Right x → (c t : ℕ) → c < 32 → t < 32 → OnBoard (ledgerLast x .board) c t → T (not (in? (x .outcome .left) c t)) → Struck (ledgerLast x .board) (causeOf (s′ .slots)) c t
   strikes right c t lc lt on n = (on, go (after .stored .recorded .sound .either c t on))
     where
-      go : (markOf (s′ .slots) c t ≡ 255) ⊎ (markOf (s′ .slots) c t < 64) → markOf (s′ .slots) c t < 64
+      go : (causeOf (s′ .slots) c t ≡ 255) ⊎ (causeOf (s′ .slots) c t < 64) → causeOf (s′ .slots) c t < 64
       go (inl e) = absurd (closes right c t lc lt n e)
       go (inr h) = h
 
@@ -150,14 +149,11 @@ right-p2 = samples-right .1 .0
 right-p3 : Right p3
 right-p3 = samples-right .1 .1 .0
 
-right-p4-lift : Right p4Lift
-right-p4-lift = samples-right .1 .1 .1 .1 .0
+right-p4-retract : Right p4Retract
+right-p4-retract = samples-right .1 .1 .1 .1 .0
 
 right-p5 : Right p5
 right-p5 = samples-right .1 .1 .1 .1 .1 .1 .0
-
-right-p6 : Right p6
-right-p6 = samples-right .1 .1 .1 .1 .1 .1 .1 .0
 
 module _ (s : State) (given : Answer) (s′ : State) where
   -- A BOARD THAT REFUSES ALL COMMANDS
@@ -168,16 +164,16 @@ module _ (s : State) (given : Answer) (s′ : State) where
       omega arith
 
   -- ONE THAT STRIKES EVERYTHING
-  pub not-striking-all : Last p1 s given s′ → ((c t : ℕ) → OnBoard (ledgerLast p1 .board) c t → markOf (s′ .slots) c t < 64) → ⊥
+  pub not-striking-all : Last p1 s given s′ → ((c t : ℕ) → OnBoard (ledgerLast p1 .board) c t → causeOf (s′ .slots) c t < 64) → ⊥
   not-striking-all last all = omega (arith, all 0 0 (lit< tt), opens p1 s given s′ last right-p1 0 0 (lit< tt) (lit< tt) tt)
 
   -- ONE THAT STRIKES NOTHING
-  pub not-striking-none : Last p1 s given s′ → ((c t : ℕ) → OnBoard (ledgerLast p1 .board) c t → markOf (s′ .slots) c t ≡ 255) → ⊥
+  pub not-striking-none : Last p1 s given s′ → ((c t : ℕ) → OnBoard (ledgerLast p1 .board) c t → causeOf (s′ .slots) c t ≡ 255) → ⊥
   not-striking-none last all = closes p1 s given s′ last right-p1 0 2 (lit< tt) (lit< tt) tt (all 0 2 (lit< tt))
 
   -- ONE THAT ALWAYS SHOWS ONE MASK: after P5 the two calls differ
   pub not-one-mask : Last p5 s given s′ → (shown : OpenSlots) → SlotsPromise s′ 0 shown → SlotsPromise s′ 1 shown → ⊥
-  unfolding counts?
+  unfolding active?
   not-one-mask last shown m m′ =
       let L = ledgerLast p5 in
       let shape = shape-after p5 s given s′ last in
@@ -191,26 +187,26 @@ module _ (s : State) (given : Answer) (s′ : State) where
       omega arith
     where
       values-at : ℕ → Lent → List ℕ
-      values-at c l = valuesAt (firstOf (callConditions (ledgerLast p5) l c)) (maskOf 32 (open? (s′ .slots) c) ∷ count 32 (open? (s′ .slots) c) ∷ [])
+      values-at c l = valuesAt (firstOf (callConditions (ledgerLast p5) l c)) (maskOf 32 (open? (s′ .slots) c) ∷ countBelow 32 (open? (s′ .slots) c) ∷ [])
 
   -- ONE THAT IGNORES LIFTS
   pub not-ignoring-lifts : Last p6 s given s′ → s′ .slots ≡ s .slots → ⊥
-  unfolding counts?
+  unfolding active?
   not-ignoring-lifts last = changes p6 s given s′ last 0 0 (lit< tt) (lit< tt) tt
 
   -- ONE THAT STRIKES AT THE FIRST PUT AND IDLES LATER
   pub not-idling : Last p2 s given s′ → s′ .slots ≡ s .slots → ⊥
-  unfolding counts?
+  unfolding active?
   not-idling last = changes p2 s given s′ last 0 1 (lit< tt) (lit< tt) tt
 
   -- ONE THAT NAMES ONE CAUSE FOR ALL
-  pub not-one-cause : Last p2 s given s′ → (n : ℕ) → ((c t : ℕ) → Struck (ledgerLast p2 .board) (markOf (s′ .slots)) c t → markOf (s′ .slots) c t ≡ n) → ⊥
-  unfolding counts?
+  pub not-one-cause : Last p2 s given s′ → (n : ℕ) → ((c t : ℕ) → Struck (ledgerLast p2 .board) (causeOf (s′ .slots)) c t → causeOf (s′ .slots) c t ≡ n) → ⊥
+  unfolding active?
   not-one-cause last n one =
       let h = strikes p2 s given s′ last right-p2 0 2 (lit< tt) (lit< tt) (lit< tt) tt in
       let h′ = strikes p2 s given s′ last right-p2 2 1 (lit< tt) (lit< tt) (lit< tt) tt in
       let sound = after p2 s given s′ last .stored .recorded .sound in
-      two-causes (ledgerLast p2 .board) (markOf (s′ .slots)) (killerOf (s′ .killers)) tt (sound .grounded 0 2 h) (sound .grounded 2 1 h′) (one 0 2 h ∙ sym (one 2 1 h′))
+      two-causes (ledgerLast p2 .board) (causeOf (s′ .slots)) (killerOf (s′ .killers)) tt (sound .grounded 0 2 h) (sound .grounded 2 1 h′) (one 0 2 h ∙ sym (one 2 1 h′))
 
   -- ONE THAT INVENTS S, AND ONE THAT INVENTS R
   pub not-inventing-struck : Last p1 s given s′ → (r : Report) → given ≡ answer.Accepted r → r .struck ≢ 2 → ⊥
@@ -228,20 +224,20 @@ module _ (s : State) (given : Answer) (s′ : State) where
 
   -- ONE THAT SAYS "NONE" WITH A LIVING ROW THERE: row 0 of P1's rule holds slot 0 in column 0
   pub not-none-with-support : Last p1 s given s′ → SupportPromise s′ 0 0 0 support.Nothing → ⊥
-  unfolding counts?
+  unfolding active?
   not-none-with-support last m =
       let L = ledgerLast p1 in
       m .answered L (shape-after p1 s given s′ last) (after p1 s given s′ last) .means (ap (λ (l : Lent). firstOf (supportConditions L l 0 0 0)) (lent-after p1 s given s′ last)) 0 (lit< tt)
       (λ k n. found-viable (L .board) (callAt (ruleAt (L .board) 0) k) (slotAt (ruleAt (L .board) 0) 0 k) .0 (within→ (L .board) (ruleAt (L .board) 0) (openOf (L .board)) 0 tt k n)) refl
 
-  -- THE WRONG TURNS. "in P4 each of two slots waits for the other and both stay struck"
-  pub not-waiting : Last p4Lift s given s′ → markOf (s′ .slots) 0 1 < 64 → markOf (s′ .slots) 1 1 < 64 → ⊥
-  not-waiting last h h′ = omega (arith, opens p4Lift s given s′ last right-p4-lift 0 1 (lit< tt) (lit< tt) tt)
+  -- THE WRONG TURNS (SCOPE 9). 9.1: P4's two slots are left struck, each waiting for the other
+  pub not-waiting : Last p4Retract s given s′ → causeOf (s′ .slots) 0 1 < 64 → causeOf (s′ .slots) 1 1 < 64 → ⊥
+  not-waiting last h h′ = omega (arith, opens p4Retract s given s′ last right-p4-retract 0 1 (lit< tt) (lit< tt) tt)
 
-  -- "in P3, slot 1 of call 2 stays struck"
-  pub not-own-cause-only : Last p3 s given s′ → markOf (s′ .slots) 2 1 < 64 → ⊥
+  -- 9.2: slot 1 of call 2 is left struck in P3
+  pub not-own-cause-only : Last p3 s given s′ → causeOf (s′ .slots) 2 1 < 64 → ⊥
   not-own-cause-only last h = omega (arith, opens p3 s given s′ last right-p3 2 1 (lit< tt) (lit< tt) tt)
 
-  -- "Clearing the whole board when one call has nothing open": P5's call 1
-  pub not-clearing : Last p5 s given s′ → ((c t : ℕ) → OnBoard (ledgerLast p5 .board) c t → markOf (s′ .slots) c t < 64) → ⊥
+  -- 9.4: P5's call 1 is cleared because call 0 has nothing left
+  pub not-clearing : Last p5 s given s′ → ((c t : ℕ) → OnBoard (ledgerLast p5 .board) c t → causeOf (s′ .slots) c t < 64) → ⊥
   not-clearing last all = omega (arith, all 1 0 (lit< tt), opens p5 s given s′ last right-p5 1 0 (lit< tt) (lit< tt) tt)

@@ -1,9 +1,9 @@
 -- The call's refusal is the answer's; where there is none, the mask is the definition's, and its ones are the open slots.
 use borrow.Author.Needs.{needs}
-use Rattle.model.specs.Representation.{State, stateOf}
-use Rattle.questions.specs.Answers.{slots-refused, slots-given}
 use Rattle.questions.proofs.open_slots.Statement.{statement}
 use Rattle.questions.proofs.open_slots.Tie as tie
+use Rattle.layout.specs.Memory.{State, stateOf}
+use Rattle.questions.specs.Laws.Answers.{slots-refused, slots-given}
 
 abbrev state : tie.Start → State
 state c = stateOf (c .args .value) (c .args .rows .now) (c .args .killers .now) (c .args .slots .now)

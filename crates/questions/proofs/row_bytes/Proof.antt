@@ -2,11 +2,11 @@
 use native.Mathlib.Nat.{add-sub-cancel-left}
 use native.Mathlib.Omega.{arith}
 use borrow.Author.Needs.{needs}
-use Rattle.model.specs.Representation.{State, stateOf}
-use Rattle.questions.specs.Refusal.{row-bounds}
-use Rattle.questions.specs.Answers.{row-bytes-refused, row-bytes-given}
 use Rattle.questions.proofs.row_bytes.Statement.{statement}
 use Rattle.questions.proofs.row_bytes.Tie as tie
+use Rattle.layout.specs.Memory.{State, stateOf}
+use Rattle.questions.specs.Laws.Answers.{row-bytes-refused, row-bytes-given}
+use Rattle.questions.specs.Laws.Bounds.{row-bounds}
 
 abbrev state : tie.Start → State
 state c = stateOf (c .args .value) (c .args .rows .now) (c .args .killers .now) (c .args .slots .now)
@@ -45,7 +45,7 @@ part-result-end : tie.Need-part-result-end
 part-result-end c =
     let start = c .before .before .before .before .before .before .before .before .before .before .before in
     let there = row-bounds (state start) (start .args .rule) (start .args .row) (c .before .row-refusal .ensures) (c .if1 .left) in
-    omega (arith, there .0, there .2, there .3)
+    omega (arith, there .rows-size, there .number, there .few)
 
 returns-2 : tie.Need-returns-2
 returns-2 c =

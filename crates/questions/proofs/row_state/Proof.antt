@@ -3,11 +3,11 @@ use mathlib.Core.Path.{refl}
 use native.Mathlib.Omega.{arith}
 use borrow.Author.Needs.{needs}
 use borrow.Author.Tests.{eq-eqb, ne-eqb}
-use Rattle.model.specs.Representation.{State, stateOf}
-use Rattle.questions.specs.Refusal.{row-bounds}
-use Rattle.questions.specs.Answers.{row-refused, row-given}
 use Rattle.questions.proofs.row_state.Statement.{statement}
 use Rattle.questions.proofs.row_state.Tie as tie
+use Rattle.layout.specs.Memory.{State, stateOf}
+use Rattle.questions.specs.Laws.Answers.{row-refused, row-given}
+use Rattle.questions.specs.Laws.Bounds.{row-bounds}
 
 abbrev state : tie.Start → State
 state c = stateOf (c .args .value) (c .args .rows .now) (c .args .killers .now) (c .args .slots .now)
@@ -31,7 +31,7 @@ shared-slice-read-byte c =
     let asked = c .before .before in
     let start = asked .before .before .before .before .before .before .before .before .before .before in
     let there = row-bounds (state start) (start .args .rule) (start .args .row) (asked .row-refusal .ensures) (c .before .if1 .left) in
-    omega (arith, there .1, there .2, there .3)
+    omega (arith, there .killers-size, there .number, there .few)
 
 returns-2 : tie.Need-returns-2
 returns-2 c =

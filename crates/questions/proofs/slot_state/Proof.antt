@@ -1,10 +1,10 @@
 -- The slot's refusal is the answer's; where there is none, the code's test of the slot's byte is the definition's.
 use borrow.Author.Needs.{needs}
 use borrow.Author.Tests.{eq-eqb, ne-eqb}
-use Rattle.model.specs.Representation.{State, stateOf}
-use Rattle.questions.specs.Answers.{state-refused, state-given}
 use Rattle.questions.proofs.slot_state.Statement.{statement}
 use Rattle.questions.proofs.slot_state.Tie as tie
+use Rattle.layout.specs.Memory.{State, stateOf}
+use Rattle.questions.specs.Laws.Answers.{state-refused, state-given}
 
 abbrev state : tie.Start → State
 state c = stateOf (c .args .value) (c .args .rows .now) (c .args .killers .now) (c .args .slots .now)

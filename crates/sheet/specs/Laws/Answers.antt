@@ -12,47 +12,50 @@ use Rattle.model.specs.declared.answer.Answer.the-variants as answer
 use Rattle.model.specs.declared.command.Command.{Command}
 use Rattle.model.specs.declared.command.Command.the-variants as kind
 use Rattle.model.specs.declared.command.Read.the-variants as found
-use Rattle.model.specs.Tests.{count}
+use Rattle.model.specs.Tests.{countBelow}
 use Rattle.model.specs.Filter.{openOf}
 use Rattle.model.specs.Commands.{kindOf}
-use Rattle.model.specs.Ledger.{Ledger, firstOf, kindConditions, effect, obey}
+use Rattle.model.specs.Ledger.{Ledger, kindConditions, effect, obey}
 use Rattle.model.specs.Report.{slotCount, struckOf, reopenedOf, struckBy, reopenedBy, open?, struck?, Silent, Changed, Reports}
-use Rattle.model.specs.Representation.{State, Represents}
+use Rattle.model.specs.Representation.{Represents}
 use Rattle.model.specs.Promise.{numberOf, valuesOf, valuesAt, reportValues, Obeyed}
 use Rattle.model.specs.Sheet.{acceptedLine, decisionLine}
 use Rattle.model.specs.Laws.Answers.{refused-by, accepted-by}
 use Rattle.model.specs.Laws.Reports.{struck-between, reopened-between}
 use Rattle.sheet.specs.Line.{answerLine, ShortAnswer}
+use Rattle.layout.specs.Memory.{State}
+use Rattle.layout.specs.Sizes.{slotsLength}
+use Rattle.model.specs.Refusals.{firstOf}
 
 -- no test passes more often than it is made
-count-most : (n : ℕ) (f : ℕ → Bool) → count n f ≤ n
+count-most : (n : ℕ) (f : ℕ → Bool) → countBelow n f ≤ n
 count-most zero f = omega arith
 count-most (suc n) f = go (f n) (count-most n f)
   where
-    go : (b : Bool) → count n f ≤ n → count n f + cond b 1 0 ≤ suc n
+    go : (b : Bool) → countBelow n f ≤ n → countBelow n f + cond b 1 0 ≤ suc n
     go true h = omega arith
     go false h = omega arith
 
-slots-most : (f : ℕ → ℕ → Bool) → slotCount f ≤ 1024
-slots-most f = count-most 1024 (λ i. f (i / 32) (i % 32))
+slots-most : (f : ℕ → ℕ → Bool) → slotCount f ≤ slotsLength
+slots-most f = count-most slotsLength (λ i. f (i / 32) (i % 32))
 
 -- S AND R OF A REPORT, by kind: at most 1,024, and one of them is 0
 module _ (before after : List ℕ) (q : Report) where
   silent-short : Silent q → ShortAnswer (answer.Accepted q)
   silent-short r = record { struck = omega (arith, r .struck); reopened = omega (arith, r .reopened); one = inl (r .struck) }
 
-  changed-most : Changed before after q → (q .struck ≤ 1024) × (q .reopened ≤ 1024)
+  changed-most : Changed before after q → (q .struck ≤ slotsLength) × (q .reopened ≤ slotsLength)
   changed-most r = (
-    subst (λ (n : ℕ). n ≤ 1024) (sym (r .struck)) (slots-most (λ c s. open? before c s && struck? after c s)),
-    subst (λ (n : ℕ). n ≤ 1024) (sym (r .reopened)) (slots-most (λ c s. struck? before c s && open? after c s)),
+    subst (λ (n : ℕ). n ≤ slotsLength) (sym (r .struck)) (slots-most (λ c s. open? before c s && struck? after c s)),
+    subst (λ (n : ℕ). n ≤ slotsLength) (sym (r .reopened)) (slots-most (λ c s. struck? before c s && open? after c s)),
   )
 
   reported-short : (c : Command) → Reports c before after q → ShortAnswer (answer.Accepted q)
   reported-short kind.Board r = silent-short r
   reported-short (kind.Head h) r = silent-short r
   reported-short (kind.Row w) r = silent-short r
-  reported-short kind.Put r = let most = changed-most (r .changed) in record { struck = most .0; reopened = most .1; one = inr (r .none-reopened) }
-  reported-short (kind.Lift n) r = let most = changed-most (r .changed) in record { struck = most .0; reopened = most .1; one = inl (r .none-struck) }
+  reported-short kind.Post r = let most = changed-most (r .changed) in record { struck = most .0; reopened = most .1; one = inr (r .none-reopened) }
+  reported-short (kind.Retract n) r = let most = changed-most (r .changed) in record { struck = most .0; reopened = most .1; one = inl (r .none-struck) }
 
 -- and those of the boards before and after
 module _ (L : Ledger) (s s′ : State) (ns : List ℕ) (rep : Represents L s) (q : Report) where
@@ -65,8 +68,8 @@ module _ (L : Ledger) (s s′ : State) (ns : List ℕ) (rep : Represents L s) (q
   reported-same kind.Board rep′ r = (r .struck, r .reopened)
   reported-same (kind.Head h) rep′ r = (r .struck, r .reopened)
   reported-same (kind.Row w) rep′ r = (r .struck, r .reopened)
-  reported-same kind.Put rep′ r = changed-same (effect L kind.Put ns) refl rep′ (r .changed)
-  reported-same (kind.Lift n) rep′ r = changed-same (effect L (kind.Lift n) ns) refl rep′ (r .changed)
+  reported-same kind.Post rep′ r = changed-same (effect L kind.Post ns) refl rep′ (r .changed)
+  reported-same (kind.Retract n) rep′ r = changed-same (effect L (kind.Retract n) ns) refl rep′ (r .changed)
 
 -- AN ANSWER, from its number and the report
 abbrev answerBy : ℕ → Report → Answer

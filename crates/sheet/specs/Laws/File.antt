@@ -1,4 +1,4 @@
--- FROM THE FIRST TURN TO THE LAST: the lines that are written and those that are left stay all of them, and after the last turn those of the board are left.
+-- FROM THE FIRST ROUND TO THE LAST: the lines that are written and those that are left stay all of them, and after the last round those of the board are left.
 -- Assumes nothing.
 use mathlib.Core.Path.{_≡_, refl, sym, ap, _∙_}
 use mathlib.Core.List.{List, [], _++_, append-assoc}
@@ -8,38 +8,41 @@ use lib.ListN.{length}
 use Rattle.model.specs.declared.command.Decoded.{Decoded}
 use Rattle.model.specs.Commands.{readAt}
 use Rattle.model.specs.Ledger.{fresh, upToZero}
-use Rattle.model.specs.Representation.{State, Represents}
+use Rattle.model.specs.Representation.{Represents}
 use Rattle.model.specs.Sheet.{readsFrom, linesFrom}
 use Rattle.model.specs.Laws.Shapes.{shape-fresh}
-use Rattle.lines.specs.Append.{Room, Appended, append-none, append-more, append-same, room-less}
-use Rattle.lines.specs.Joined.{joined}
-use Rattle.lines.specs.Calls.{slotLine}
-use Rattle.lines.specs.Counts.{counted-lines, count-most}
-use Rattle.lines.specs.Lengths.{call-lines-most}
-use Rattle.sheet.specs.declared.turn.Progress.{Progress}
-use Rattle.sheet.specs.Turn.{ledgerAfter, lineOf, Held, Turned}
+use Rattle.sheet_lines.specs.Append.{Room, Appended}
+use Rattle.sheet_lines.specs.Joined.{joined}
+use Rattle.sheet_lines.specs.Calls.{slotLine}
+use Rattle.sheet.specs.declared.advance.Progress.{Progress}
+use Rattle.sheet.specs.Advance.{ledgerNext, lineOf, Held, Advanced}
 use Rattle.sheet.specs.File.{fileLines, countedLines, Fits, Lined, Reached}
-use Rattle.sheet.specs.Laws.Turn.{reads-end, turn-lines, turn-further, turn-shape}
+use Rattle.sheet.specs.Laws.Advance.{reads-end, advance-lines, advance-further, advance-shape}
+use Rattle.layout.specs.Memory.{State}
+use Rattle.sheet_lines.specs.Laws.Append.{append-none, append-more, append-same, room-less}
+use Rattle.sheet_lines.specs.Laws.Counts.{counted-lines, count-most}
+use Rattle.sheet_lines.specs.Laws.Lengths.{call-lines-most}
+use Rattle.sheet_lines.specs.Lengths.{callLinesMost, lineMost}
 
 -- THE LINES OF THE CALLS: at most 32, of at most 91 bytes. The code counts the calls
 module _ (counts : List ℕ) (size : length counts ≡ 32) (n : ℕ) (is : n ≡ length (upToZero counts)) where
   pub calls-most : n ≤ 32
   calls-most = omega (arith, count-most counts)
 
-  pub calls-room : (slots : List ℕ) {place : ℕ} {out : List ℕ} → Room place 2912 out → Room place (length (joined (slotLine slots) n)) out
+  pub calls-room : (slots : List ℕ) {place : ℕ} {out : List ℕ} → Room place callLinesMost out → Room place (length (joined (slotLine slots) n)) out
   calls-room slots room = room-less room (omega (arith, calls-most, call-lines-most slots n calls-most))
 
   pub calls-appended : (slots : List ℕ) {place r : ℕ} {old new : List ℕ} → Appended (joined (slotLine slots) n) place old new r → Appended (countedLines counts slots) place old new r
   unfolding countedLines
   calls-appended slots a = append-same (ap (λ (k : ℕ). joined (slotLine slots) k) is) a
 
-call-bytes-most : (counts slots : List ℕ) → length counts ≡ 32 → length (countedLines counts slots) ≤ 2912
+call-bytes-most : (counts slots : List ℕ) → length counts ≡ 32 → length (countedLines counts slots) ≤ callLinesMost
 unfolding countedLines
 call-bytes-most counts slots size =
     let most = calls-most counts size (length (upToZero counts)) refl in
     omega (arith, most, call-lines-most slots (length (upToZero counts)) most)
 
--- BEFORE THE FIRST TURN
+-- BEFORE THE FIRST ROUND
 pub reached-start : (input : List ℕ) (p : Progress) (s : State) (out : List ℕ) → p .read ≡ 0 → p .written ≡ 0 → Represents fresh s → Reached input p s out out
 unfolding fileLines
 reached-start input p s out read written rep =
@@ -56,18 +59,18 @@ reached-start input p s out read written rep =
       all = rw read refl;
     }
 
--- a turn may be taken
+-- a round may be taken
 pub reached-held : {input : List ℕ} {p : Progress} {s : State} {old new : List ℕ} → Reached input p s old new → Held s
 reached-held r = record { ledger = r .ledger; shape = r .shape; represents = r .represents }
 
--- ONE TURN MORE
+-- ONE ROUND MORE
 module _ (input : List ℕ) (p q : Progress) (before after : State) (old mid new : List ℕ) (r : Reached input p before old mid) (further : p .read < length input)
-    (t : Turned (readAt input (p .read)) (length input) p before mid q after new) where
+    (t : Advanced (readAt input (p .read)) (length input) p before mid q after new) where
   pub reads-on : p .read < q .read
-  reads-on = omega (arith, t .read, turn-further input (p .read) further .0)
+  reads-on = omega (arith, t .read, advance-further input (p .read) further .0)
 
-  pub reached-turn : Reached input q after old new
-  reached-turn = go (r .most) (r .enough) (r .all)
+  pub reached-advance : Reached input q after old new
+  reached-advance = go (r .most) (r .enough) (r .all)
     where
       d : Decoded
       d = readAt input (p .read)
@@ -76,31 +79,31 @@ module _ (input : List ℕ) (p q : Progress) (before after : State) (old mid new
       go zero enough all = absurd (omega arith)
       go (suc n) enough all =
           record {
-            ledger = ledgerAfter (r .ledger) d;
-            shape = turn-shape (r .ledger) input (p .read) (r .shape);
+            ledger = ledgerNext (r .ledger) d;
+            shape = advance-shape (r .ledger) input (p .read) (r .shape);
             represents = t .represents (r .ledger) (r .shape) (r .represents);
             lines = r .lines ++ lineOf (r .ledger) d;
             appended = append-more (r .appended) (t .line (r .ledger) (r .shape) (r .represents));
             short = omega (arith, r .short, t .short, reads-on);
-            inside = omega (arith, t .read, turn-further input (p .read) further .1);
+            inside = omega (arith, t .read, advance-further input (p .read) further .1);
             most = n;
             enough = omega (arith, reads-on);
-            all = append-assoc (r .lines) (lineOf (r .ledger) d) (linesFrom (ledgerAfter (r .ledger) d) (readsFrom n input (q .read)))
-                ∙ ap (λ (k : ℕ). r .lines ++ (lineOf (r .ledger) d ++ linesFrom (ledgerAfter (r .ledger) d) (readsFrom n input k))) (t .read)
-                ∙ ap (λ (l : List ℕ). r .lines ++ l) (sym (turn-lines (r .ledger) input n d))
+            all = append-assoc (r .lines) (lineOf (r .ledger) d) (linesFrom (ledgerNext (r .ledger) d) (readsFrom n input (q .read)))
+                ∙ ap (λ (k : ℕ). r .lines ++ (lineOf (r .ledger) d ++ linesFrom (ledgerNext (r .ledger) d) (readsFrom n input k))) (t .read)
+                ∙ ap (λ (l : List ℕ). r .lines ++ l) (sym (advance-lines (r .ledger) input n d))
                 ∙ all;
           }
 
 -- WHERE A BUFFER WITH ROOM FOR THE LONGEST SHEET was lent
 module _ (input : List ℕ) (p : Progress) (s : State) (old mid : List ℕ) (r : Reached input p s old mid) (fits : Fits input old) where
-  -- there is room for the line of a turn, and for the lines of the board
-  pub turn-room : p .read < length input → Room (p .written) 11 mid
-  turn-room further = record { fits = omega (arith, r .appended .size, r .short, fits .input-most, fits .room) }
+  -- there is room for the line of a round, and for the lines of the board
+  pub advance-room : p .read < length input → Room (p .written) lineMost mid
+  advance-room further = record { fits = omega (arith, r .appended .size, r .short, fits .input-most, fits .room) }
 
-  pub board-room : Room (p .written) 2912 mid
+  pub board-room : Room (p .written) callLinesMost mid
   board-room = record { fits = omega (arith, r .appended .size, r .short, r .inside, fits .input-most, fits .room) }
 
-  -- after the last turn, with the lines of the board, it is all lines
+  -- after the last round, with the lines of the board, it is all lines
   pub reached-end : length input ≤ p .read → (new : List ℕ) (n : ℕ) → Appended (countedLines (s .value .heads .counts) (s .slots)) (p .written) mid new n
       → Lined (fileLines input) old new n
   unfolding countedLines

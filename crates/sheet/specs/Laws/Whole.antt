@@ -9,24 +9,27 @@ use lib.Seq.{length-take-le}
 use lib.Dec.{ltb}
 use borrow.Author.Tests.{lt-ltb, le-ltb}
 use Rattle.model.specs.Promise.{valuesAt}
-use Rattle.model.specs.Sheet.{refusedLine, endLine, sheetOf}
-use Rattle.lines.specs.Append.{Appended, append-more}
+use Rattle.model.specs.Sheet.{refusedLine, endLine, sheetOf, inputMost}
+use Rattle.sheet_lines.specs.Append.{Appended}
 use Rattle.sheet.specs.declared.answer.Sheet.{Sheet}
 use Rattle.sheet.specs.declared.answer.Sheet.the-variants as answer
-use Rattle.sheet.specs.Promise.{numberOf, valuesOf, SheetPromise}
+use Rattle.sheet.specs.Promise.{sheetNumber, sheetValues, SheetPromise}
 use Rattle.sheet.specs.Line.{LineAppended}
 use Rattle.sheet.specs.File.{fileLines, inputLines, Lined}
+use Rattle.sheet_lines.specs.Laws.Append.{append-more}
+use Rattle.sheet.specs.Bounds.{sheetMost}
+use Rattle.model.specs.Numbers as refused
 
 -- the lines of an input that is too long, and of one that is not
 module _ (input : List ℕ) {old new : List ℕ} {n : ℕ} where
-  -- "Input too long gives `r 0 2` and no command is run."
-  pub too-long : 32768 < length input → LineAppended (refusedLine 0 2) 0 old new n → Lined (inputLines input) old new n
+  -- one that is too long has its refusal's line, and nothing of it is run (SCOPE 7.5)
+  pub too-long : inputMost < length input → LineAppended (refusedLine 0 refused.fileLength) 0 old new n → Lined (inputLines input) old new n
   unfolding inputLines
-  too-long long line = record { appended = rw (lt-ltb 32768 (length input) long) (line .appended); most = omega (arith, line .short) }
+  too-long long line = record { appended = rw (lt-ltb inputMost (length input) long) (line .appended); most = omega (arith, line .short) }
 
-  pub not-long : length input ≤ 32768 → Lined (fileLines input) old new n → Lined (inputLines input) old new n
+  pub not-long : length input ≤ inputMost → Lined (fileLines input) old new n → Lined (inputLines input) old new n
   unfolding inputLines
-  not-long short lined = rw (le-ltb 32768 (length input) short) lined
+  not-long short lined = rw (le-ltb inputMost (length input) short) lined
 
 -- bytes that are written at the start
 module _ (bytes old new : List ℕ) (n : ℕ) (a : Appended bytes 0 old new n) where
@@ -42,16 +45,16 @@ module _ (bytes old new : List ℕ) (n : ℕ) (a : Appended bytes 0 old new n) w
 
 -- the promise where the buffer is too short, and where it is not
 module _ (input before : List ℕ) where
-  pub sheet-refused : length before < 363364 → SheetPromise input before (answer.Refused 1) before
+  pub sheet-refused : length before < sheetMost → SheetPromise input before (answer.Refused refused.bufferLength) before
   sheet-refused short =
-      let e = lt-ltb (length before) 363364 short in
+      let e = lt-ltb (length before) sheetMost short in
       record { number = rw e refl; values = rw e refl; bytes = rw e refl }
 
-  pub sheet-written : (mid after : List ℕ) (place n : ℕ) → 363364 ≤ length before → Lined (inputLines input) before mid place → Appended endLine place mid after n
+  pub sheet-written : (mid after : List ℕ) (place n : ℕ) → sheetMost ≤ length before → Lined (inputLines input) before mid place → Appended endLine place mid after n
       → SheetPromise input before (answer.Written n) after
   unfolding inputLines fileLines
   sheet-written mid after place n room lined last =
-      let e = le-ltb (length before) 363364 room in
+      let e = le-ltb (length before) sheetMost room in
       let a : Appended (sheetOf input) 0 before after n = append-more (lined .appended) last in
       record {
         number = rw e refl;
@@ -62,7 +65,7 @@ module _ (input before : List ℕ) where
 -- WHAT IS WRITTEN LIES IN THE BUFFER, for whoever calls
 module _ {input before : List ℕ} {given : Sheet} {after : List ℕ} (p : SheetPromise input before given after) {n : ℕ} (is : given ≡ answer.Written n) where
   pub written-fits : n ≤ length after
-  written-fits = go (ltb (length before) 363364) (ap numberOf (sym is) ∙ p .number) (ap valuesOf (sym is) ∙ p .values) (p .bytes)
+  written-fits = go (ltb (length before) sheetMost) (ap sheetNumber (sym is) ∙ p .number) (ap sheetValues (sym is) ∙ p .values) (p .bytes)
     where
       fits : (sheet : List ℕ) → n ∷ [] ≡ length sheet ∷ [] → after ≡ sheet ++ drop (length sheet) before → n ≤ length after
       fits sheet v b = let same : n ≡ length sheet = cc in omega (arith, ap length b, length-append sheet (drop (length sheet) before))

@@ -1,8 +1,8 @@
 -- No byte where there is none, and so many from the row's place on where there are some.
 use borrow.Author.Needs.{needs}
-use Rattle.berth.specs.Places.{placed}
 use Rattle.berth.proofs.reply.of_row_bytes.Statement.{statement}
 use Rattle.berth.proofs.reply.of_row_bytes.Tie as tie
+use Rattle.berth.specs.Laws.Places.{placed}
 
 returns : tie.Need-returns
 returns c = rw (c .if1 .taken)

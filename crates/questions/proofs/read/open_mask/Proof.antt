@@ -1,13 +1,14 @@
--- The loop's invariant: the bits of the slots from s on are in the mask. Each turn takes in the slot below them.
+-- The loop's invariant: the bits of the slots from s on are in the mask. Each round takes in the slot below them.
 use mathlib.Core.Path.{_≡_}
 use Prim.Native.Nat.{_+_, _*_, _≤_, _<_}
 use native.Mathlib.Omega.{arith}
 use lib.Dec.{eqb}
 use borrow.Author.Needs.{needs}
 use Rattle.model.specs.Report.{open?}
-use Rattle.questions.specs.Mask.{Doubled, digit-below, doubled-none, doubled-more, doubled-fits, doubled-all}
+use Rattle.questions.specs.Mask.{Doubled}
 use Rattle.questions.proofs.read.open_mask.Statement.{statement}
 use Rattle.questions.proofs.read.open_mask.Tie as tie
+use Rattle.questions.specs.Laws.Mask.{digit-below, doubled-none, doubled-more, doubled-fits, doubled-all}
 
 abbrev Inv-loop : tie.InvT-loop
 Inv-loop slots call base mask₀ s₀ mask s = (s ≤ 32) × Doubled (open? slots call) s mask

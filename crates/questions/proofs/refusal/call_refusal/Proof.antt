@@ -1,39 +1,47 @@
--- The board's refusal stands; where there is none, the code's test is the definition's.
+-- The code goes through the list, a check at a time.
 use mathlib.Core.List.{[]}
 use borrow.Author.Needs.{needs}
-use borrow.Author.Tests.{eq-eqb, ne-eqb}
-use Rattle.model.specs.Representation.{State}
+use Rattle.model.specs.Questions.{callChecks}
+use Rattle.model.specs.Laws.Refusals.{chain-first}
 use Rattle.questions.specs.Parts.{stateOfParts}
-use Rattle.questions.specs.Refusal.{call-stands, call-decides}
 use Rattle.questions.proofs.refusal.call_refusal.Statement.{statement}
 use Rattle.questions.proofs.refusal.call_refusal.Tie as tie
 
-abbrev state : tie.Start → State
-state c = stateOfParts (c .args .counts .now) [] [] [] (c .args .rows .now) (c .args .killers .now) (c .args .slots .now)
+bad-lengths-requires : tie.Need-bad-lengths-requires
+bad-lengths-requires c κs = search needs
 
-board-refusal-requires : tie.Need-board-refusal-requires
-board-refusal-requires c κs = search needs
+or-refuse-requires : tie.Need-or-refuse-requires
+or-refuse-requires c κs = search needs
+
+element-copy-out-or-refuse : tie.Need-element-copy-out-or-refuse
+element-copy-out-or-refuse c = search needs
+
+or-refuse-requires-2 : tie.Need-or-refuse-requires-2
+or-refuse-requires-2 c κs = search needs
+
+byte-at-requires : tie.Need-byte-at-requires
+byte-at-requires c κs = search needs
+
+or-refuse-requires-3 : tie.Need-or-refuse-requires-3
+or-refuse-requires-3 c κs = search needs
 
 returns : tie.Need-returns
 returns c =
-    let start = c .before .before .before .before .before in
-    call-stands (state start) (start .args .call) (c .before .board-refusal .ensures) (c .if1 .taken)
-
-slots-held-requires : tie.Need-slots-held-requires
-slots-held-requires c κs = search needs
-
-returns-2 : tie.Need-returns-2
-returns-2 c =
-    let asked = c .before .before .before in
-    let start = asked .before .before .before .before in
-    rw (eq-eqb _ _ (c .if2 .taken)) at (call-decides (state start) (start .args .call) (asked .board-refusal .ensures) (c .before .before .if1 .left) (c .before .slots-held .ensures))
-
-returns-3 : tie.Need-returns-3
-returns-3 c =
-    let asked = c .before .before .before in
-    let start = asked .before .before .before .before in
-    rw (ne-eqb _ _ (c .if2 .left)) at (call-decides (state start) (start .args .call) (asked .board-refusal .ensures) (c .before .before .if1 .left) (c .before .slots-held .ensures))
+    let board = c .before .before .before in
+    let lent = board .before .before in
+    let a = lent .before .before .before .before .before .args in
+    let s = stateOfParts (a .counts .now) [] [] [] (a .rows .now) (a .killers .now) (a .slots .now) in
+    rw (c .or-refuse3 .ensures, c .before .byte-at .ensures, board .or-refuse2 .ensures, lent .or-refuse .ensures, lent .before .bad-lengths .ensures)
+    (chain-first (callChecks s (a .call)) tt)
 
 pub call-refusal-spec : {M : Type 1} → statement M
 call-refusal-spec =
-    tie.close (tie.spec board-refusal-requires returns slots-held-requires returns-2 returns-3)
+    tie.close
+    (tie.spec
+    bad-lengths-requires
+    or-refuse-requires
+    element-copy-out-or-refuse
+    or-refuse-requires-2
+    byte-at-requires
+    or-refuse-requires-3
+    returns)

@@ -1,39 +1,29 @@
--- The rule's refusal stands; where there is none, the code's test is the definition's.
+-- The code goes through the list, a check at a time; the number handed on is that of a chain of the checks before.
 use mathlib.Core.List.{[]}
 use borrow.Author.Needs.{needs}
-use borrow.Author.Tests.{le-leb, lt-leb}
-use Rattle.model.specs.Representation.{State}
+use Rattle.model.specs.Questions.{ruleChecks, rowChecks}
+use Rattle.model.specs.Laws.Refusals.{chain-first}
 use Rattle.questions.specs.Parts.{stateOfParts}
-use Rattle.questions.specs.Refusal.{row-stands, row-decides}
 use Rattle.questions.proofs.refusal.row_refusal.Statement.{statement}
 use Rattle.questions.proofs.refusal.row_refusal.Tie as tie
-
-abbrev state : tie.Start → State
-state c = stateOfParts (c .args .counts .now) (c .args .arity .now) [] (c .args .lengths .now) (c .args .rows .now) (c .args .killers .now) (c .args .slots .now)
 
 rule-refusal-requires : tie.Need-rule-refusal-requires
 rule-refusal-requires c κs = search needs
 
+rows-of-requires : tie.Need-rows-of-requires
+rows-of-requires c κs = search needs
+
+or-refuse-requires : tie.Need-or-refuse-requires
+or-refuse-requires c κs = search needs
+
 returns : tie.Need-returns
 returns c =
-    let start = c .before .before .before .before .before in
-    row-stands (state start) (start .args .rule) (start .args .row) (c .before .rule-refusal .ensures) (c .if1 .taken)
-
-rows-held-requires : tie.Need-rows-held-requires
-rows-held-requires c κs = search needs
-
-returns-2 : tie.Need-returns-2
-returns-2 c =
-    let asked = c .before .before .before in
-    let start = asked .before .before .before .before in
-    rw (le-leb _ _ (c .if2 .taken)) at (row-decides (state start) (start .args .rule) (start .args .row) (asked .rule-refusal .ensures) (c .before .before .if1 .left) (c .before .rows-held .ensures))
-
-returns-3 : tie.Need-returns-3
-returns-3 c =
-    let asked = c .before .before .before in
-    let start = asked .before .before .before .before in
-    rw (lt-leb _ _ (c .if2 .left)) at (row-decides (state start) (start .args .rule) (start .args .row) (asked .rule-refusal .ensures) (c .before .before .if1 .left) (c .before .rows-held .ensures))
+    let asked = c .before .before in
+    let a = asked .before .before .before .before .args in
+    let s = stateOfParts (a .counts .now) (a .arity .now) [] (a .lengths .now) (a .rows .now) (a .killers .now) (a .slots .now) in
+    rw (c .or-refuse .ensures, c .before .rows-of .ensures, asked .rule-refusal .ensures, ← chain-first (ruleChecks s (a .rule)) tt)
+    (chain-first (rowChecks s (a .rule) (a .row)) tt)
 
 pub row-refusal-spec : {M : Type 1} → statement M
 row-refusal-spec =
-    tie.close (tie.spec rule-refusal-requires returns rows-held-requires returns-2 returns-3)
+    tie.close (tie.spec rule-refusal-requires rows-of-requires or-refuse-requires returns)

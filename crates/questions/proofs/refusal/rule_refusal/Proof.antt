@@ -1,53 +1,59 @@
--- The board's refusal stands; where there is none, the code's tests are the definition's, in its order.
+-- The code goes through the list, a check at a time.
 use mathlib.Core.List.{[]}
-use mathlib.Core.Path.{refl, sym}
 use borrow.Author.Needs.{needs}
-use borrow.Author.Tests.{lt-ltb, le-ltb, eq-eqb, ne-eqb}
-use Rattle.model.specs.Representation.{State}
+use Rattle.model.specs.Questions.{ruleChecks}
+use Rattle.model.specs.Laws.Refusals.{chain-first}
 use Rattle.questions.specs.Parts.{stateOfParts}
-use Rattle.questions.specs.Refusal.{rule-stands, rule-decides}
 use Rattle.questions.proofs.refusal.rule_refusal.Statement.{statement}
 use Rattle.questions.proofs.refusal.rule_refusal.Tie as tie
 
-abbrev state : tie.Start → State
-state c = stateOfParts (c .args .counts .now) (c .args .arity .now) [] [] (c .args .rows .now) (c .args .killers .now) (c .args .slots .now)
+bad-lengths-requires : tie.Need-bad-lengths-requires
+bad-lengths-requires c κs = search needs
 
-board-refusal-requires : tie.Need-board-refusal-requires
-board-refusal-requires c κs = search needs
+or-refuse-requires : tie.Need-or-refuse-requires
+or-refuse-requires c κs = search needs
+
+element-copy-out-or-refuse : tie.Need-element-copy-out-or-refuse
+element-copy-out-or-refuse c = search needs
+
+or-refuse-requires-2 : tie.Need-or-refuse-requires-2
+or-refuse-requires-2 c κs = search needs
+
+or-refuse-requires-3 : tie.Need-or-refuse-requires-3
+or-refuse-requires-3 c κs = search needs
+
+columns-of-requires : tie.Need-columns-of-requires
+columns-of-requires c κs = search needs
+
+or-refuse-requires-4 : tie.Need-or-refuse-requires-4
+or-refuse-requires-4 c κs = search needs
 
 returns : tie.Need-returns
 returns c =
-    let start = c .before .before .before .before .before in
-    rule-stands (state start) (start .args .rule) (c .before .board-refusal .ensures) (c .if1 .taken)
-
-returns-2 : tie.Need-returns-2
-returns-2 c =
-    let asked = c .before .before in
-    let start = asked .before .before .before .before in
-    rule-decides (state start) (start .args .rule) (asked .board-refusal .ensures) (c .before .if1 .left) (sym (lt-ltb _ _ (c .if2 .taken))) refl
-
-columns-held-requires : tie.Need-columns-held-requires
-columns-held-requires c κs = search needs
-
-returns-3 : tie.Need-returns-3
-returns-3 c =
-    let numbered = c .before .before in
-    let asked = numbered .before .before in
-    let start = asked .before .before .before .before in
-    rw (eq-eqb _ _ (c .if3 .taken)) at
-    (rule-decides (state start) (start .args .rule) (asked .board-refusal .ensures) (numbered .before .if1 .left) (sym (le-ltb _ _ (numbered .if2 .left)))
-    (c .before .columns-held .ensures))
-
-returns-4 : tie.Need-returns-4
-returns-4 c =
-    let numbered = c .before .before in
-    let asked = numbered .before .before in
-    let start = asked .before .before .before .before in
-    rw (ne-eqb _ _ (c .if3 .left)) at
-    (rule-decides (state start) (start .args .rule) (asked .board-refusal .ensures) (numbered .before .if1 .left) (sym (le-ltb _ _ (numbered .if2 .left)))
-    (c .before .columns-held .ensures))
+    let number = c .before .before in
+    let board = number .before in
+    let lent = board .before .before in
+    let a = lent .before .before .before .before .before .args in
+    let s = stateOfParts (a .counts .now) (a .arity .now) [] [] (a .rows .now) (a .killers .now) (a .slots .now) in
+    rw (
+      c .or-refuse4 .ensures,
+      c .before .columns-of .ensures,
+      number .or-refuse3 .ensures,
+      board .or-refuse2 .ensures,
+      lent .or-refuse .ensures,
+      lent .before .bad-lengths .ensures,
+    )
+    (chain-first (ruleChecks s (a .rule)) tt)
 
 pub rule-refusal-spec : {M : Type 1} → statement M
 rule-refusal-spec =
     tie.close
-    (tie.spec board-refusal-requires returns returns-2 columns-held-requires returns-3 returns-4)
+    (tie.spec
+    bad-lengths-requires
+    or-refuse-requires
+    element-copy-out-or-refuse
+    or-refuse-requires-2
+    or-refuse-requires-3
+    columns-of-requires
+    or-refuse-requires-4
+    returns)

@@ -1,14 +1,14 @@
--- The loop keeps what `Reached` says: what is written and what is left to be written are all of the lines. A turn reads on, so the measure falls.
+-- The loop keeps what `Reached` says: what is written and what is left to be written are all of the lines. A round reads on, so the measure falls.
 use mathlib.Core.Path.{refl}
 use Prim.Native.Nat.{_-_}
 use native.Mathlib.Omega.{arith}
 use lib.ListN.{length}
 use borrow.Author.Needs.{needs}
-use Rattle.model.specs.Representation.{stateOf}
 use Rattle.sheet.specs.File.{Reached}
-use Rattle.sheet.specs.Laws.File.{reached-start, reached-held, reads-on, reached-turn, turn-room, board-room, reached-end}
+use Rattle.sheet.specs.Laws.File.{reached-start, reached-held, reads-on, reached-advance, advance-room, board-room, reached-end}
 use Rattle.sheet.proofs.file.fresh_lines.Statement.{statement}
 use Rattle.sheet.proofs.file.fresh_lines.Tie as tie
+use Rattle.layout.specs.Memory.{stateOf}
 
 abbrev Inv-loop : tie.InvT-loop
 Inv-loop input out₀ rows₀ killers₀ slots₀ progress₀ out rows killers slots progress = Reached input progress (stateOf (progress .value) rows killers slots) out₀ out
@@ -19,26 +19,26 @@ abbrev μ-loop : tie.MeasureT-loop
 loop-holds : tie.Need-loop-holds Inv-loop μ-loop
 loop-holds c = reached-start _ _ _ _ refl refl (c .before .before .before .before .before .pre .1)
 
-turn-requires : tie.Need-turn-requires Inv-loop μ-loop
-turn-requires c κs =
+advance-requires : tie.Need-advance-requires Inv-loop μ-loop
+advance-requires c κs =
     let test = c .before .before .before .before in
     let loop = test .before .before in
     let start = loop .before .before .before .before .before .before in
-    (reached-held (loop .loop .inv), turn-room _ _ _ _ _ (loop .loop .inv) (start .pre .0) (test .if1 .taken))
+    (reached-held (loop .loop .inv), advance-room _ _ _ _ _ (loop .loop .inv) (start .pre .0) (test .if1 .taken))
 
 loop-less : tie.Need-loop-less Inv-loop μ-loop
 loop-less c =
     let done = c .before .before .before .before .before .before .before .before in
     let test = done .before .before .before .before .before in
     let loop = test .before .before in
-    omega (arith, test .if1 .taken, reads-on _ _ _ _ _ _ _ _ (loop .loop .inv) (test .if1 .taken) (done .turn .ensures))
+    omega (arith, test .if1 .taken, reads-on _ _ _ _ _ _ _ _ (loop .loop .inv) (test .if1 .taken) (done .advance .ensures))
 
 loop-again : tie.Need-loop-again Inv-loop μ-loop
 loop-again c =
     let done = c .before .before .before .before .before .before .before .before in
     let test = done .before .before .before .before .before in
     let loop = test .before .before in
-    reached-turn _ _ _ _ _ _ _ _ (loop .loop .inv) (test .if1 .taken) (done .turn .ensures)
+    reached-advance _ _ _ _ _ _ _ _ (loop .loop .inv) (test .if1 .taken) (done .advance .ensures)
 
 board-lines-requires : tie.Need-board-lines-requires Inv-loop μ-loop
 board-lines-requires c κs =
@@ -75,7 +75,7 @@ fresh-lines-spec =
     Inv-loop
     μ-loop
     loop-holds
-    turn-requires
+    advance-requires
     loop-less
     loop-again
     board-lines-requires

@@ -1,0 +1,55 @@
+-- DEMAND 3 OF THE COMMAND ENTRY (SCOPE 6.12 to 6.15), over every list of raw commands with any lengths lent, and over every two lists. Nothing is assumed but
+-- that each command of a list meets the entry's contract, which `command` of this crate is proved to do.
+use mathlib.Core.Path.{_≡_}
+use mathlib.Core.List.{List}
+use mathlib.Core.Logic.{_↔_, _⊎_}
+use Prim.Native.Nat.{ℕ, _<_}
+use lib.ListN.{length}
+use Rattle.model.specs.Board.{Rule, Board, InForce, Viable, Alive, Dead, FullPlan, AtLeast}
+use Rattle.model.specs.Records.{Open, Struck, Caused, KillerIn, NoRing, EscapeFromAll}
+use Rattle.model.specs.Ledger.{Member}
+use Rattle.model.specs.Laws.Lists.{demand-3, demand-3-two}
+use Rattle.layout.specs.Places.{causeOf, killerOf}
+use Rattle.layout.specs.Memory.{State}
+use Rattle.board.specs.Lists.{After, boardAfter}
+
+-- FOR EVERY LIST OF COMMANDS
+module _ (ms : List Member) (s : State) (after : After ms s) where
+  abbrev B : Board
+  B = boardAfter ms
+
+  abbrev cause : ℕ → ℕ → ℕ
+  cause = causeOf (s .slots)
+
+  abbrev killer : ℕ → ℕ → ℕ
+  killer = killerOf (s .killers)
+
+  -- no struck slots form a ring (SCOPE 6.12, 1.13)
+  pub no-ring : NoRing B cause killer
+  no-ring = demand-3 ms s after .ring
+
+  -- the same in the words of SCOPE 1.14: from each set of struck slots that has a member, killers lead out
+  pub way-out : EscapeFromAll B cause killer
+  way-out = demand-3 ms s after .escape
+
+  -- the slot that a full plan gives a call is not struck (SCOPE 6.13)
+  pub plans-open : (plan : ℕ → ℕ) → FullPlan B plan → (c : ℕ) → c < length (B .counts) → Struck B cause c (plan c) → ⊥
+  plans-open = demand-3 ms s after .plan
+
+  -- causes are what SCOPE 1.12 says (6.15)
+  pub causes : (c t : ℕ) → Struck B cause c t → Caused B cause c t
+  causes = demand-3 ms s after .cause
+
+  -- killers are what SCOPE 1.11 says, and a living row has none (6.15)
+  pub killers-struck : (p : ℕ) (r : Rule) → InForce B p r → (w : ℕ) → w < length (r .rows)
+      → ((killer p w ≡ 255) × Alive B r w) ⊎ (KillerIn B killer (Struck B cause) r p w × Dead B r w)
+  killers-struck = demand-3 ms s after .killer
+
+  -- demand 2, after every list (SCOPE 6.11): a slot is open exactly where some self-supporting set has it
+  pub largest : (c t : ℕ) → Open B cause c t ↔ Viable B c t
+  largest = demand-3 ms s after .viable
+
+-- OF TWO LISTS (SCOPE 6.14): with the same calls and counts, and at least the same rules after the second, each slot open after it is open after the first
+pub more-rules-fewer-open : (ms ms′ : List Member) (s s′ : State) → After ms s → After ms′ s′ → AtLeast (boardAfter ms) (boardAfter ms′) → (c t : ℕ)
+    → Open (boardAfter ms′) (causeOf (s′ .slots)) c t → Open (boardAfter ms) (causeOf (s .slots)) c t
+more-rules-fewer-open ms ms′ s s′ after after′ = demand-3-two ms ms′ s s′ after after′

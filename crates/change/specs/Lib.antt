@@ -1,4 +1,0 @@
-pub mod Write
-pub mod Rules
-pub mod Put
-pub mod Stored

@@ -1,0 +1,4 @@
+-- The theorems over the definitions.
+pub mod Made
+pub mod Fill
+pub mod Counts

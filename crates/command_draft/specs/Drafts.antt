@@ -1,0 +1,47 @@
+-- THE DRAFTS that kinds 2 and 3 leave.
+use mathlib.Core.Bool.{cond}
+use mathlib.Core.List.{List}
+use Prim.Native.Nat.{ℕ, _+_, _*_}
+use lib.ListN.{set}
+use lib.Dec.{leb}
+use Rattle.layout.specs.declared.value.RuleData.{RuleData}
+use Rattle.layout.specs.declared.value.Draft.{Draft}
+use Rattle.layout.specs.declared.value.Value.{Value}
+use Rattle.model.specs.declared.answer.Outcome.{Outcome}
+use Rattle.model.specs.declared.command.Head.{Head}
+use Rattle.model.specs.declared.command.Row.{Row}
+use Rattle.model.specs.declared.command.Command.{Command}
+use Rattle.model.specs.declared.command.Command.the-variants as kind
+use Rattle.model.specs.Commands.{scopeOf}
+use Rattle.model.specs.Promise.{KindPromise}
+use Rattle.layout.specs.Value.{emptyRule}
+use Rattle.layout.specs.Memory.{stateOf}
+
+-- A KIND THAT ONLY WRITES THE DRAFT keeps its promise over any buffers, and they stay as they are
+abbrev pub DraftPromise : Value → Command → Outcome → Type 0
+DraftPromise value c r =
+    (rows killers slots ns : List ℕ) → KindPromise (stateOf value rows killers slots) c ns (r .answer) (stateOf (r .value) rows killers slots)
+
+-- a head without rows
+abbrev pub draftOf : Head → Draft
+draftOf h = record { number = h .number; rule = record { arity = h .arity; scope = scopeOf h; length = 0; rows = emptyRule .rows } }
+
+-- what kind 2 promises
+abbrev pub StartsDraft : Value → Head → Outcome → Type 0
+StartsDraft value h r = DraftPromise value (kind.Head h) r
+
+-- row bytes with a row's four slots from the place at on
+abbrev pub withSlots : List ℕ → ℕ → Row → List ℕ
+withSlots rows at w = set (set (set (set rows at (w .slot0)) (at + 1) (w .slot1)) (at + 2) (w .slot2)) (at + 3) (w .slot3)
+
+-- a rule with the row at its end, and a draft of it; one of 64 rows stays as it is
+abbrev pub longerRule : RuleData → Row → RuleData
+longerRule r w =
+    cond (leb (r .length) 63) (record { arity = r .arity; scope = r .scope; length = r .length + 1; rows = withSlots (r .rows) (4 * r .length) w }) r
+
+abbrev pub withRow : Draft → Row → Draft
+withRow d w = record { number = d .number; rule = longerRule (d .rule) w }
+
+-- what kind 3 promises
+abbrev pub AddsRow : Value → Row → Outcome → Type 0
+AddsRow value w r = DraftPromise value (kind.Row w) r

@@ -1,0 +1,113 @@
+-- Each arm hands on what the function of its kind promises.
+use native.Mathlib.Omega.{arith}
+use borrow.Author.Needs.{needs}
+use Rattle.command_obey.proofs.obey.Statement.{statement}
+use Rattle.command_obey.proofs.obey.Tie as tie
+use Rattle.command_obey.specs.Laws.Obeys.{other-obeys, board-obeys}
+
+enum-told : tie.Need-enum-told
+enum-told c = search needs
+
+make-board-requires : tie.Need-make-board-requires
+make-board-requires c κs = search needs
+
+enum-known-command : tie.Need-enum-known-command
+enum-known-command c = search needs
+
+start-draft-requires : tie.Need-start-draft-requires
+start-draft-requires c κs = search needs
+
+enum-known-command-2 : tie.Need-enum-known-command-2
+enum-known-command-2 c = search needs
+
+add-row-requires : tie.Need-add-row-requires
+add-row-requires c κs = search needs
+
+enum-told-2 : tie.Need-enum-told-2
+enum-told-2 c = search needs
+
+post-requires : tie.Need-post-requires
+post-requires c κs = search needs
+
+enum-known-command-3 : tie.Need-enum-known-command-3
+enum-known-command-3 c = search needs
+
+retract-requires : tie.Need-retract-requires
+retract-requires c κs = search needs
+
+same-length : tie.Need-same-length
+same-length c = search needs
+
+same-length-2 : tie.Need-same-length-2
+same-length-2 c = search needs
+
+same-length-3 : tie.Need-same-length-3
+same-length-3 c = search needs
+
+returns : tie.Need-returns
+returns c =
+    let called = c .before .before .before .before .before .before in
+    board-obeys (called .before .before .before .before .enum-told .given .1) (called .make-board .ensures)
+
+returns-2 : tie.Need-returns-2
+returns-2 c = other-obeys (c .before .before .command .given .1) (omega arith) (c .start-draft .ensures _ _ _ _)
+
+returns-3 : tie.Need-returns-3
+returns-3 c = other-obeys (c .before .before .command2 .given .1) (omega arith) (c .add-row .ensures _ _ _ _)
+
+same-length-4 : tie.Need-same-length-4
+same-length-4 c = search needs
+
+same-length-5 : tie.Need-same-length-5
+same-length-5 c = search needs
+
+same-length-6 : tie.Need-same-length-6
+same-length-6 c = search needs
+
+returns-4 : tie.Need-returns-4
+returns-4 c =
+    let called = c .before .before .before .before .before .before in
+    other-obeys (called .before .before .before .before .enum-told2 .given .1) (omega arith) (called .post .ensures _)
+
+same-length-7 : tie.Need-same-length-7
+same-length-7 c = search needs
+
+same-length-8 : tie.Need-same-length-8
+same-length-8 c = search needs
+
+same-length-9 : tie.Need-same-length-9
+same-length-9 c = search needs
+
+returns-5 : tie.Need-returns-5
+returns-5 c =
+    let called = c .before .before .before .before .before .before in
+    other-obeys (called .before .before .before .before .before .command3 .given .1) (omega arith) (called .retract .ensures _)
+
+pub obey-spec : {M : Type 1} → statement M
+obey-spec =
+    tie.close
+    (tie.spec
+    enum-told
+    make-board-requires
+    enum-known-command
+    start-draft-requires
+    enum-known-command-2
+    add-row-requires
+    enum-told-2
+    post-requires
+    enum-known-command-3
+    retract-requires
+    same-length
+    same-length-2
+    same-length-3
+    returns
+    returns-2
+    returns-3
+    same-length-4
+    same-length-5
+    same-length-6
+    returns-4
+    same-length-7
+    same-length-8
+    same-length-9
+    returns-5)

@@ -1,0 +1,68 @@
+-- How each kind keeps its promise, and how the entry's promise follows from it. Assumes nothing.
+use mathlib.Core.Path.{_≡_, refl, sym, ap, subst, _∙_}
+use mathlib.Core.Bool.{false}
+use mathlib.Core.List.{List}
+use Prim.Native.Nat.{ℕ, zero, suc, _≤_}
+use native.Mathlib.Omega.{arith}
+use lib.ListN.{length}
+use borrow.Author.Tests.{eq-eqb}
+use Rattle.model.specs.declared.answer.Answer.{Answer}
+use Rattle.model.specs.declared.command.Command.{Command}
+use Rattle.model.specs.declared.command.Command.the-variants as kind
+use Rattle.model.specs.declared.command.Read.the-variants as found
+use Rattle.model.specs.declared.command.Decoded.{Decoded}
+use Rattle.model.specs.Commands.{kindOf, readAt}
+use Rattle.model.specs.Ledger.{Ledger, kindConditions, effect, obey, fresh}
+use Rattle.model.specs.Representation.{Represents}
+use Rattle.model.specs.Promise.{numberOf, Obeyed, KindPromise, Promise}
+use Rattle.model.specs.Laws.Answers.{refused-by}
+use Rattle.model.specs.Laws.Entry.{well-formed, kind-promise}
+use Rattle.command_board.specs.Made.{MakesBoard}
+use Rattle.layout.specs.Bounds.{Sizes}
+use Rattle.layout.specs.Memory.{State, lentOf}
+use Rattle.layout.specs.Sizes.{badLent?, killersLength, rowsLength, slotsLength}
+use Rattle.command_obey.specs.Obeys.{Obeys}
+use Rattle.model.specs.Refusals.{firstOf}
+
+-- the other kinds promise no more than their kind's promise. The command is d by what the match on it found
+pub other-obeys : {before after : State} {c d : Command} {ns : List ℕ} {given : Answer} → c ≡ d → 2 ≤ kindOf d → KindPromise before d ns given after
+    → Obeys before c ns given after
+other-obeys {before} {after} {c} {d} {ns} {given} is other p =
+    subst (λ (x : Command). Obeys before x ns given after) (sym is) (record { promise = p; made = λ e. absurd (omega (arith, other, ap kindOf e)) })
+
+-- KIND 1 keeps both promises
+pub board-obeys : {before after : State} {c : Command} {ns : List ℕ} {given : Answer} → c ≡ kind.Board → MakesBoard ns before given after → Obeys before c ns given after
+board-obeys {before} {after} {c} {ns} {given} is m =
+    subst (λ (x : Command). Obeys before x ns given after) (sym is)
+    (record {
+      promise = record { refused = m .refused; obeyed = λ L shape rep. obeyed L rep };
+      made = λ e. m .made;
+    })
+  where
+    obeyed : (L : Ledger) → Represents L before → Obeyed L before kind.Board ns given after
+    obeyed L rep =
+        record {
+          report = record { struck = 0; reopened = 0; touched = 0 };
+          number = m .made .number;
+          values = m .made .values;
+          reported = λ e. record { struck = refl; reopened = refl; touched = refl };
+          represents = go (firstOf (kindConditions fresh kind.Board ns)) (m .made .number) (m .made .represents);
+        }
+      where
+        go : (k : ℕ) → numberOf given ≡ k → (k ≡ 0 → Represents (effect fresh kind.Board ns) after) → Represents (obey k L (found.Command kind.Board) ns) after
+        go zero e made = made refl
+        go (suc k) e made = subst (λ (s : State). Represents L s) (sym (m .refused (suc k) (refused-by given k e))) rep
+
+-- buffers of these lengths are not refused
+pub right-lengths : {rows killers slots : List ℕ} → Sizes rows killers slots
+    → badLent? (record { rows = length rows; killers = length killers; slots = length slots }) ≡ false
+right-lengths {rows} {killers} {slots} z =
+    rw (eq-eqb (length rows) rowsLength (z .rows-size), eq-eqb (length killers) killersLength (z .killers-size), eq-eqb (length slots) slotsLength (z .slots-size)) refl
+
+-- THE ENTRY'S PROMISE from a command that was read whole, as d at the first byte, with nothing left over, and obeyed
+pub obeys-promise : {s after : State} {bytes : List ℕ} {c : Command} {given : Answer} (d : Decoded) → badLent? (lentOf s) ≡ false → d ≡ readAt bytes 0
+    → d .read ≡ found.Command c → length bytes ≤ d .next → Obeys s c (d .counts) given after → Promise s bytes given after
+obeys-promise {s} {after} {bytes} {c} {given} d good decoded is whole o =
+    let read : readAt bytes 0 .read ≡ found.Command c = ap (λ (x : Decoded). x .read) (sym decoded) ∙ is in
+    let same = subst (λ (x : Decoded). Obeys s c (x .counts) given after) decoded o in
+    kind-promise s bytes c given after read (well-formed s bytes good d decoded c is whole) (same .promise) (same .made)

@@ -1,0 +1,132 @@
+-- WHAT A POST AND A RETRACTION LEAVE is the stepped ledger's, and their reports are right. Assumes nothing.
+use mathlib.Core.Path.{_≡_, refl, sym, _∙_}
+use mathlib.Core.Bool.{Bool, false, true≢false, not}
+use mathlib.Core.List.{List}
+use mathlib.Core.Option.{Option, none, some}
+use Prim.Native.Nat.{ℕ, _%_, _<_}
+use native.Mathlib.Omega.{arith}
+use lib.ListN.{length, getD}
+use borrow.Author.Tests.{ltb-false}
+use Rattle.model.specs.declared.answer.Answer.{Answer}
+use Rattle.model.specs.declared.answer.Answer.the-variants as answer
+use Rattle.model.specs.declared.command.Command.the-variants as kind
+use Rattle.model.specs.Board.{Board, GoodRule}
+use Rattle.model.specs.Tests.{isNone}
+use Rattle.model.specs.Ledger.{NumberedRule, Ledger, LedgerShape, draftOr, notInForce?, withRule, kindConditions, effect}
+use Rattle.model.specs.Report.{PostReport, RetractReport}
+use Rattle.model.specs.Representation.{Drafted, Represents}
+use Rattle.model.specs.Promise.{KindPromise}
+use Rattle.model.specs.Laws.Fresh.{empty-held}
+use Rattle.model.specs.Laws.Refusals.{none-holds}
+use Rattle.model.specs.Numbers as refused
+use Rattle.filter_post.specs.Rules.{withRuleHeads}
+use Rattle.filter_retract.specs.Stored.{RetractStored}
+use Rattle.command_rules.specs.Checks.{postChecks, retractChecks}
+use Rattle.command_rules.specs.Changes.{postReport, retractReport, stateRules, Posted, Retracted}
+use Rattle.model.specs.Laws.Promised.{promise-refused, promise-accepted}
+use Rattle.command_rules.specs.Laws.Checks.{post-checks-same, retract-checks-same}
+use Rattle.layout.specs.Value.{emptyDraft}
+use Rattle.layout.specs.Memory.{State}
+use Rattle.filter_post.specs.Laws.Stored.{post-stored, post-struck, post-reopened}
+use Rattle.filter_retract.specs.Laws.Stored.{retract-stored}
+use Rattle.layout.specs.Sizes.{slotsLength}
+use Rattle.model.specs.Refusals.{firstOf}
+
+-- the empty draft is no draft
+empty-drafted : Drafted none emptyDraft
+empty-drafted = record { number = refl; rule = empty-held }
+
+-- a number that is not taken
+is-free : {A : Type 0} (o : Option A) → not (isNone o) ≡ false → o ≡ none
+is-free none e = refl
+is-free (some a) e = absurd (true≢false e)
+
+-- where the counts stay, the heads are those before with the rules' heads after
+heads-kept : (before after : State) → after .value .heads .counts ≡ before .value .heads .counts
+    → after .value .heads ≡ withRuleHeads (before .value .heads) (stateRules after)
+heads-kept before after e = rw (← e) refl
+
+-- KIND 4
+module _ (before : State) (ns : List ℕ) where
+  abbrev checks : List (Bool × ℕ)
+  checks = postChecks (before .value .heads .counts) (before .value .heads .arity) (before .value .draft .number) (before .value .draft .rule .arity)
+
+  -- a refusal changes nothing
+  pub post-refused : (n : ℕ) → (n ≡ 0 → ⊥) → n ≡ firstOf checks → KindPromise before kind.Post ns (answer.Refused n) before
+  post-refused n ne e = promise-refused before kind.Post ns n ne (λ L shape is. e ∙ post-checks-same L shape before is ns)
+
+  module _ (given : Answer) (after : State) (done : Posted before given after) where
+    post-reports : length (before .slots) ≡ slotsLength → PostReport (before .slots) (after .slots) (postReport (done .struck))
+    post-reports size =
+        record {
+          changed = record { struck = post-struck size (done .done); reopened = sym (post-reopened size (done .done)) };
+          none-reopened = refl;
+          touched = refl;
+        }
+
+    post-represents : (L : Ledger) → LedgerShape L → Represents L before → firstOf (kindConditions L kind.Post ns) ≡ 0 → Represents (effect L kind.Post ns) after
+    post-represents L shape is accepted =
+        let fails = none-holds (kindConditions L kind.Post ns) tt accepted in
+        go (L .draft) (is .drafted) (shape .draft) (fails refused.noDraft) (fails refused.inForce)
+      where
+        go : (o : Option NumberedRule) → Drafted o (before .value .draft)
+            → ((d : NumberedRule) → o ≡ some d → (d .number < 64) × GoodRule (L .board .counts) (d .rule)) → isNone o ≡ false → not (notInForce? L (draftOr o .number)) ≡ false
+            → Represents (record { board = withRule (L .board) (draftOr o .number) (some (draftOr o .rule)); draft = none }) after
+        go none drafted good some-draft free = absurd (true≢false some-draft)
+        go (some d) drafted good some-draft free =
+            let g = good d refl in
+            let number : before .value .draft .number % 64 ≡ d .number = omega (arith, drafted .number, g .0) in
+            let untaken = is-free (getD (L .board .rules) (d .number) none) free in
+            record {
+              stored = rw (heads-kept before after (done .counts))
+                  (post-stored (L .board) (shape .board) (d .number) (g .0) untaken (d .rule) (g .1)
+                  (drafted .rule) (before .value .heads) (before .rows) (before .killers) (before .slots) (is .stored) (stateRules after) (rw number at (done .done)));
+              drafted = rw (done .draft) empty-drafted;
+            }
+
+    pub post-accepted : 0 ≡ firstOf checks → KindPromise before kind.Post ns given after
+    post-accepted e =
+        rw (done .answer-is)
+        (promise-accepted before kind.Post ns after (postReport (done .struck))
+        (λ L shape is.
+        let passes = e ∙ post-checks-same L shape before is ns in (
+          passes,
+          post-reports (is .stored .slots-size),
+          post-represents L shape is (sym passes),
+        )))
+
+-- KIND 5
+module _ (n : ℕ) (before : State) (ns : List ℕ) where
+  pub retract-refused : (m : ℕ) → (m ≡ 0 → ⊥) → m ≡ firstOf (retractChecks (before .value .heads .counts) (before .value .heads .arity) n)
+      → KindPromise before (kind.Retract n) ns (answer.Refused m) before
+  retract-refused m ne e = promise-refused before (kind.Retract n) ns m ne (λ L shape is. e ∙ retract-checks-same L shape before is n ns)
+
+  module _ (given : Answer) (after : State) (done : Retracted n before given after) where
+    retracted : (L : Ledger) → LedgerShape L → Represents L before → n < 64
+        → RetractStored (L .board) n (before .value .heads) (stateRules after) (after .killers) (before .slots) (after .slots) (done .reopened) (done .touched)
+    retracted L shape is ln =
+        let number : n % 64 ≡ n = omega arith in
+        retract-stored (L .board) (shape .board) n ln (before .value .heads) (before .rows) (before .killers) (before .slots) (is .stored) (rw number at (done .done))
+
+    retract-reports : {B : Board} → RetractStored B n (before .value .heads) (stateRules after) (after .killers) (before .slots) (after .slots) (done .reopened) (done .touched)
+        → RetractReport (before .slots) (after .slots) (retractReport (done .reopened) (done .touched))
+    retract-reports h =
+        record {
+          changed = record { struck = sym (h .none-struck); reopened = sym (h .reopened-is) };
+          none-struck = refl;
+          least = h .least;
+          most = h .most;
+        }
+
+    pub retract-accepted : 0 ≡ firstOf (retractChecks (before .value .heads .counts) (before .value .heads .arity) n) → KindPromise before (kind.Retract n) ns given after
+    retract-accepted e =
+        rw (done .answer-is)
+        (promise-accepted before (kind.Retract n) ns after (retractReport (done .reopened) (done .touched))
+        (λ L shape is.
+        let passes = e ∙ retract-checks-same L shape before is n ns in
+        let named = none-holds (kindConditions L (kind.Retract n) ns) tt (sym passes) refused.badNumber in
+        let h = retracted L shape is (omega (arith, ltb-false 63 n named)) in (
+          passes,
+          retract-reports h,
+          record { stored = rw (heads-kept before after (done .counts)) (h .stored); drafted = rw (done .draft) (is .drafted) },
+        )))

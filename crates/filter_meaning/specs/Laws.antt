@@ -1,0 +1,5 @@
+-- The theorems over the definitions.
+pub mod Rules
+pub mod Working
+pub mod Settled
+pub mod Counts

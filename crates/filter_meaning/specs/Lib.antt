@@ -1,0 +1,4 @@
+pub mod Rules
+pub mod Working
+pub mod Counts
+pub mod Laws

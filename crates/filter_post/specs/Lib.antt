@@ -1,0 +1,4 @@
+pub mod Write
+pub mod Rules
+pub mod Post
+pub mod Laws

@@ -1,0 +1,8 @@
+-- The theorems over the definitions.
+pub mod Rows
+pub mod Strikes
+pub mod Queue
+pub mod Step
+pub mod Steps
+pub mod Kept
+pub mod Stable

@@ -1,0 +1,10 @@
+pub mod Rules
+pub mod Bounds
+pub mod Rows
+pub mod Strikes
+pub mod Queue
+pub mod Step
+pub mod Steps
+pub mod Kept
+pub mod Stable
+pub mod Laws

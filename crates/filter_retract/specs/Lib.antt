@@ -1,0 +1,5 @@
+pub mod Done
+pub mod Count
+pub mod Touched
+pub mod Stored
+pub mod Laws

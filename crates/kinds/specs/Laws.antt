@@ -1,6 +1,0 @@
--- The theorems over them.
-pub mod Counts
-pub mod Made
-pub mod Order
-pub mod Fields
-pub mod Drafts

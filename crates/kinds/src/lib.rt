@@ -1,7 +1,0 @@
-// Kinds 1, 2 and 3: a new board, the head of a draft, a row of it. Each checks its own refusals, in the order of document 01's table, and changes nothing where
-// one holds.
-// Proved: what each answers and leaves is what specs/Promise.antt of the crate model says; all of it is safe on any contents. Assumed: nothing.
-pub mod new_board; // kind 1
-mod fields; // the checks that kinds 2 and 3 share
-pub mod head; // kind 2
-pub mod row; // kind 3

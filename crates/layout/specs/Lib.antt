@@ -1,0 +1,7 @@
+-- The memory map.
+pub mod Sizes
+pub mod Places
+pub mod Bounds
+pub mod Value
+pub mod Memory
+pub mod Laws

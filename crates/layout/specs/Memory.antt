@@ -1,0 +1,34 @@
+-- A STATE OF THE MEMORY: the value and the three buffers, and the fresh one.
+use mathlib.Core.List.{List}
+use Prim.Native.Nat.{ℕ, _<_}
+use denote.Ref.{RefT, now}
+use lib.ListN.{length, replicate, getD}
+use Rattle.layout.specs.declared.value.Value.{Value}
+use Rattle.layout.specs.Value.{freshValue}
+use Rattle.layout.specs.Sizes.{Lent, killersLength, rowsLength, slotsLength}
+use mathlib.Core.Path.{_≡_}
+
+-- A STATE: the value and the three buffers
+pub record State : Type 0 where
+  pub value : Value
+  pub rows : List ℕ
+  pub killers : List ℕ
+  pub slots : List ℕ
+
+abbrev pub stateOf : Value → List ℕ → List ℕ → List ℕ → State
+stateOf value rows killers slots = record { value = value; rows = rows; killers = killers; slots = slots }
+
+-- the same with the buffers that a function is lent
+abbrev pub memory : Value → RefT (List ℕ) → RefT (List ℕ) → RefT (List ℕ) → State
+memory value rows killers slots = stateOf value (now rows) (now killers) (now slots)
+
+abbrev pub lentOf : State → Lent
+lentOf s = record { rows = length (s .rows); killers = length (s .killers); slots = length (s .slots) }
+
+abbrev pub freshState : State
+freshState = record { value = freshValue; rows = replicate rowsLength 255; killers = replicate killersLength 255; slots = replicate slotsLength 254 }
+
+-- n bytes, each of them v
+pub record Filled (n v : ℕ) (l : List ℕ) : Type 0 where
+  pub size : length l ≡ n
+  pub all : (j : ℕ) → j < n → getD l j 0 ≡ v

@@ -1,0 +1,42 @@
+-- WHERE BYTES LIE in the value and in the lent buffers. Numbers are taken modulo the sizes, and columns and rows are capped, so that any bytes name a place.
+use mathlib.Core.Path.{_≡_}
+use mathlib.Core.List.{List}
+use Prim.Native.Nat.{ℕ, _+_, _*_, _%_, _<_, min}
+use lib.ListN.{getD}
+use Rattle.layout.specs.Sizes.{slotsLength}
+
+-- the slot byte of call c and slot s
+abbrev pub cellOf : ℕ → ℕ → ℕ
+cellOf c s = 32 * (c % 32) + s % 32
+
+-- the call of column k of rule p
+abbrev pub callOf : List ℕ → ℕ → ℕ → ℕ
+callOf scope p k = getD scope (4 * p + k) 0 % 32
+
+-- the slot in column k of row w of rule p
+abbrev pub slotOf : List ℕ → ℕ → ℕ → ℕ → ℕ
+slotOf rows p w k = getD rows (256 * p + 4 * w + k) 0 % 32
+
+-- the killer byte of row w of rule p
+abbrev pub killerOf : List ℕ → ℕ → ℕ → ℕ
+killerOf killers p w = getD killers (64 * p + w) 0
+
+-- the slot byte of column k of row w of rule p
+unfoldable pub rowCell : List ℕ → List ℕ → ℕ → ℕ → ℕ → ℕ
+rowCell rows scope p w k = 32 * callOf scope p k + slotOf rows p w k
+
+-- r is that place, and lies within the slot bytes
+pub record AtRowCell (rows scope : List ℕ) (p w k r : ℕ) : Type 0 where
+  pub is : r ≡ rowCell rows scope p w k
+  pub lt : r < slotsLength
+
+-- how many columns and rows of rule p are looked at
+abbrev pub columnsOf : List ℕ → ℕ → ℕ
+columnsOf arity p = min (getD arity p 0) 4
+
+abbrev pub rowsOf : List ℕ → ℕ → ℕ
+rowsOf lengths p = min (getD lengths p 0) 64
+
+-- the byte of slot s of call c (SCOPE 2.3)
+abbrev pub causeOf : List ℕ → ℕ → ℕ → ℕ
+causeOf slots c s = getD slots (32 * c + s) 0

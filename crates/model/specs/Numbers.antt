@@ -1,0 +1,86 @@
+-- THE NUMBERS OF THE REFUSALS (SCOPE 4.1), each said once. The code has them as the constants of src/refusal.rt.
+use Prim.Native.Nat.{ℕ}
+
+-- a lent buffer is not of its length
+abbrev pub bufferLength : ℕ
+bufferLength = 1
+
+-- the file is too long
+abbrev pub fileLength : ℕ
+fileLength = 2
+
+-- no such kind, or no byte at all
+abbrev pub unknownKind : ℕ
+unknownKind = 3
+
+-- the body is cut short, or bytes are left over
+abbrev pub bodyLength : ℕ
+bodyLength = 4
+
+-- the slot counts are not those of a board
+abbrev pub badCounts : ℕ
+badCounts = 5
+
+-- there is no board
+abbrev pub noBoard : ℕ
+noBoard = 6
+
+-- a rule's number is over 63
+abbrev pub badNumber : ℕ
+badNumber = 7
+
+-- the arity is not 1 to 4
+abbrev pub badArity : ℕ
+badArity = 8
+
+-- a call of the head is not on the board
+abbrev pub callOffBoard : ℕ
+callOffBoard = 9
+
+-- a call stands twice in the head
+abbrev pub callTwice : ℕ
+callTwice = 10
+
+-- a field past the arity is not 255
+abbrev pub spareField : ℕ
+spareField = 11
+
+-- there is no draft
+abbrev pub noDraft : ℕ
+noDraft = 12
+
+-- the draft has 64 rows
+abbrev pub draftFull : ℕ
+draftFull = 13
+
+-- a slot of the row is not on its call
+abbrev pub slotOffCall : ℕ
+slotOffCall = 14
+
+-- the row is in the draft already
+abbrev pub rowTwice : ℕ
+rowTwice = 15
+
+-- the number is in force already
+abbrev pub inForce : ℕ
+inForce = 16
+
+-- the number is not in force
+abbrev pub notInForce : ℕ
+notInForce = 17
+
+-- there is no such call
+abbrev pub noCall : ℕ
+noCall = 18
+
+-- there is no such slot
+abbrev pub noSlot : ℕ
+noSlot = 19
+
+-- there is no such row
+abbrev pub noRow : ℕ
+noRow = 20
+
+-- there is no such column
+abbrev pub noColumn : ℕ
+noColumn = 21

@@ -1,0 +1,13 @@
+-- WRONG BOARDS: what is said of a board to show that the promise turns it away.
+use mathlib.Core.List.{map}
+use Rattle.model.specs.declared.answer.Answer.{Answer}
+use Rattle.model.specs.Ledger.{Member}
+use Rattle.model.specs.Promise.{Promise}
+use Rattle.model.specs.Lists.{Runs, Entered}
+use Rattle.model.specs.Samples.{Sample, member}
+use Rattle.layout.specs.Memory.{State, freshState}
+
+-- A SAMPLE'S LAST COMMAND, on any state that its other commands reach by the promise, with any answer and state after it that the promise allows
+pub record Last (x : Sample) (s : State) (given : Answer) (s′ : State) : Type 0 where
+  pub reached : Runs State Member Entered freshState (map member (x .before)) s
+  pub promise : Promise s (x .last) given s′

@@ -1,9 +1,0 @@
-pub mod Layout
-pub mod Bounds
-pub mod Rows
-pub mod Strikes
-pub mod Queue
-pub mod Step
-pub mod Steps
-pub mod Kept
-pub mod Stable

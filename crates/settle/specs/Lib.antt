@@ -1,4 +1,0 @@
-pub mod Rules
-pub mod Working
-pub mod Settled
-pub mod Counts

@@ -1,0 +1,70 @@
+-- The lines of the calls, slot by slot; on a state that is a ledger's they are the definition's. Assumes nothing.
+use mathlib.Core.Path.{_≡_, refl, sym, ap, _∙_}
+use mathlib.Core.Bool.{Bool, true, false, cond}
+use mathlib.Core.List.{List, [], _∷_, _++_}
+use Prim.Native.Nat.{ℕ, zero, suc, _+_, _≤_, _<_}
+use native.Mathlib.Omega.{arith}
+use lib.ListN.{length}
+use borrow.Author.Tests.{eq-eqb, ne-eqb}
+use Rattle.model.specs.Board.{Shape}
+use Rattle.model.specs.Tests.{upFrom, keepOnly}
+use Rattle.model.specs.Filter.{in?, openOf}
+use Rattle.model.specs.Ledger.{Ledger}
+use Rattle.model.specs.Report.{open?}
+use Rattle.model.specs.Representation.{Represents}
+use Rattle.model.specs.Sheet.{spaced, line, callLine, callLines, boardLines}
+use Rattle.model.specs.Laws.Reports.{open-in}
+use Rattle.sheet_lines.specs.Append.{Split}
+use Rattle.sheet_lines.specs.Joined.{joined}
+use Rattle.sheet_lines.specs.Lines.{lineParts}
+use Rattle.layout.specs.Places.{causeOf}
+use Rattle.layout.specs.Memory.{State}
+use Rattle.sheet_lines.specs.Calls.{openNumbers, slotLine, openNumber}
+use Rattle.sheet_lines.specs.Laws.Joined.{joined-over, joined-same}
+use Rattle.sheet_lines.specs.Laws.Lines.{spaced-append, line-parts}
+
+pub open-number : (slots : List ℕ) (c s : ℕ) → causeOf slots c s ≡ 255 → openNumber slots c s ≡ spaced (s ∷ [])
+unfolding openNumber
+open-number slots c s e = rw (eq-eqb (causeOf slots c s) 255 e) refl
+
+pub no-number : (slots : List ℕ) (c s : ℕ) → (causeOf slots c s ≡ 255 → ⊥) → openNumber slots c s ≡ []
+unfolding openNumber
+no-number slots c s n = rw (ne-eqb (causeOf slots c s) 255 n) refl
+
+-- one after another they are those of the call
+pub open-joined : (slots : List ℕ) (c : ℕ) → joined (openNumber slots c) 32 ≡ spaced (openNumbers slots c)
+unfolding openNumbers openNumber
+open-joined slots c = joined-over (openNumber slots c) (λ l. spaced (keepOnly (open? slots c) l)) refl each 32
+  where
+    each : (s : ℕ) (l : List ℕ) → spaced (keepOnly (open? slots c) (s ∷ l)) ≡ openNumber slots c s ++ spaced (keepOnly (open? slots c) l)
+    each s l = go (open? slots c s)
+      where
+        go : (b : Bool) → spaced (cond b (s ∷ keepOnly (open? slots c) l) (keepOnly (open? slots c) l)) ≡ cond b (spaced (s ∷ [])) [] ++ spaced (keepOnly (open? slots c) l)
+        go true = sym (spaced-append (s ∷ []) (keepOnly (open? slots c) l))
+        go false = refl
+
+-- the parts of a call's line
+pub slot-parts : (slots : List ℕ) (c : ℕ) → Split (lineParts 99 c (openNumbers slots c)) (slotLine slots c)
+unfolding slotLine
+slot-parts slots c = line-parts 99 c (openNumbers slots c)
+
+-- THE SAME LINES: what a test keeps goes by the numbers that are there
+keep-same : (f g : ℕ → Bool) (i n : ℕ) → ((t : ℕ) → t < i + n → f t ≡ g t) → keepOnly f (upFrom i n) ≡ keepOnly g (upFrom i n)
+keep-same f g i zero same = refl
+keep-same f g i (suc n) same = let e = keep-same f g (suc i) n (λ t h. same t (omega arith)) in let d = same i (omega arith) in rw (e, d) refl
+
+module _ (L : Ledger) (s : State) (rep : Represents L s) where
+  slot-line : (c : ℕ) → c < 32 → slotLine (s .slots) c ≡ callLine (openOf (L .board)) c
+  unfolding slotLine openNumbers
+  slot-line c lc =
+      ap (λ (l : List ℕ). line 99 (c ∷ l))
+      (keep-same (open? (s .slots) c) (in? (openOf (L .board)) c) 0 32 (λ t lt. open-in L s rep c t lc lt))
+
+  pub call-lines : (n : ℕ) → n ≤ 32 → joined (slotLine (s .slots)) n ≡ callLines (openOf (L .board)) (upFrom 0 n)
+  call-lines n h =
+      joined-same (slotLine (s .slots)) (callLine (openOf (L .board))) n (λ c lc. slot-line c (omega arith))
+      ∙ joined-over (callLine (openOf (L .board))) (callLines (openOf (L .board))) refl (λ c cs. refl) n
+
+  -- with the number of calls they are the board's
+  pub board-lines : Shape (L .board) → joined (slotLine (s .slots)) (length (L .board .counts)) ≡ boardLines (L .board)
+  board-lines shape = call-lines (length (L .board .counts)) (shape .calls)

@@ -1,0 +1,116 @@
+-- How long the lines are. Assumes nothing.
+use mathlib.Core.Path.{_≡_, refl}
+use mathlib.Core.Bool.{Bool, true, false, cond}
+use mathlib.Core.List.{List, [], _∷_}
+use mathlib.Core.Logic.{_⊎_, ⊎-elim}
+use Prim.Native.Nat.{ℕ, _+_, _*_, _/_, _%_, _≤_, _<_}
+use native.Mathlib.Omega.{arith}
+use lib.ListN.{length, length-append}
+use lib.Dec.{leb}
+use borrow.Author.Tests.{lt-leb}
+use Rattle.model.specs.Tests.{upFrom, keepOnly}
+use Rattle.model.specs.Report.{open?}
+use Rattle.model.specs.Sheet.{decimal, spaced, line, acceptedLine, refusedLine}
+use Rattle.sheet_lines.specs.Joined.{joined}
+use Rattle.sheet_lines.specs.Digits.{digitIf}
+use Rattle.sheet_lines.specs.Calls.{openNumbers, slotLine}
+use Rattle.sheet_lines.specs.Laws.Digits.{decimal-parts}
+use Rattle.sheet_lines.specs.Laws.Joined.{joined-most}
+use Rattle.sheet_lines.specs.Lengths.{reaches, callLineMost, decimalEnd, lineMost}
+use Rattle.layout.specs.Sizes.{slotsLength}
+
+pub reaches-most : (n w : ℕ) → reaches n w ≤ 1
+reaches-most n w = go (leb w n)
+  where
+    go : (b : Bool) → cond b 1 0 ≤ 1
+    go true = omega arith
+    go false = omega arith
+
+digit-length : (n w : ℕ) → length (digitIf n w) ≡ reaches n w
+digit-length n w = go (leb w n)
+  where
+    go : (b : Bool) → length (cond b ((48 + n / w % 10) ∷ []) []) ≡ cond b 1 0
+    go true = refl
+    go false = refl
+
+pub reaches-none : (n w : ℕ) → n < w → reaches n w ≡ 0
+reaches-none n w h = rw (lt-leb w n h) refl
+
+-- a number has one digit, and one more for each weight that it reaches
+pub decimal-length : (n : ℕ) → n < decimalEnd → length (decimal n) ≡ 1 + reaches n 10 + reaches n 100 + reaches n 1000
+decimal-length n h =
+    rw (← decimal-parts n h .same) (simp length-append (omega (arith, digit-length n 10, digit-length n 100, digit-length n 1000)))
+
+module _ (n : ℕ) where
+  pub one-digit : n < 10 → length (decimal n) ≡ 1
+  one-digit h = omega (arith, decimal-length n (omega arith), reaches-none n 10 h, reaches-none n 100 (omega arith), reaches-none n 1000 (omega arith))
+
+  pub two-digits : n < 100 → length (decimal n) ≤ 2
+  two-digits h = omega (arith, decimal-length n (omega arith), reaches-most n 10, reaches-none n 100 h, reaches-none n 1000 (omega arith))
+
+  pub three-digits : n < 1000 → length (decimal n) ≤ 3
+  three-digits h = omega (arith, decimal-length n (omega arith), reaches-most n 10, reaches-most n 100, reaches-none n 1000 h)
+
+  pub four-digits : n < decimalEnd → length (decimal n) ≤ 4
+  four-digits h = omega (arith, decimal-length n h, reaches-most n 10, reaches-most n 100, reaches-most n 1000)
+
+pub spaced-length : (n : ℕ) (ns : List ℕ) → length (spaced (n ∷ ns)) ≡ 1 + length (decimal n) + length (spaced ns)
+spaced-length n ns = omega (arith, length-append (decimal n) (spaced ns))
+
+pub line-length : (letter : ℕ) (ns : List ℕ) → length (line letter ns) ≡ 2 + length (spaced ns)
+line-length letter ns = omega (arith, length-append (spaced ns) (10 ∷ []))
+
+-- the line of an accepted command: one of S and R is 0, and there are no more than 1,024 slots
+pub accepted-most : (k s r : ℕ) → k < 10 → s ≤ slotsLength → r ≤ slotsLength → (s ≡ 0) ⊎ (r ≡ 0) → length (acceptedLine k s r) ≤ lineMost
+accepted-most k s r lk ls lr zero =
+    omega (
+      arith,
+      line-length 97 (k ∷ s ∷ r ∷ []),
+      spaced-length k (s ∷ r ∷ []),
+      spaced-length s (r ∷ []),
+      spaced-length r [],
+      one-digit k lk,
+      both,
+    )
+  where
+    both : length (decimal s) + length (decimal r) ≤ 5
+    both =
+        ⊎-elim
+        (λ (e : s ≡ 0). omega (arith, one-digit s (omega arith), four-digits r (omega arith)))
+        (λ (e : r ≡ 0). omega (arith, four-digits s (omega arith), one-digit r (omega arith)))
+        zero
+
+-- the line of a refused one: a byte for its kind, and one for the refusal's number
+pub refused-most : (k n : ℕ) → k ≤ 255 → n ≤ 255 → length (refusedLine k n) ≤ lineMost
+refused-most k n lk ln =
+    omega (
+      arith,
+      line-length 114 (k ∷ n ∷ []),
+      spaced-length k (n ∷ []),
+      spaced-length n [],
+      three-digits k (omega arith),
+      three-digits n (omega arith),
+    )
+
+-- the line of a call: at most 91 bytes, with all 32 slots open, whatever the slot bytes are
+keep-shorter : (f : ℕ → Bool) (ns : List ℕ) → length (spaced (keepOnly f ns)) ≤ length (spaced ns)
+keep-shorter f [] = omega arith
+keep-shorter f (n ∷ ns) = go (f n) (keep-shorter f ns)
+  where
+    go : (b : Bool) → length (spaced (keepOnly f ns)) ≤ length (spaced ns) → length (spaced (cond b (n ∷ keepOnly f ns) (keepOnly f ns))) ≤ length (spaced (n ∷ ns))
+    go true rest = omega (arith, spaced-length n (keepOnly f ns), spaced-length n ns)
+    go false rest = omega (arith, spaced-length n ns)
+
+-- the 32 numbers have 54 digits
+numbers-most : (slots : List ℕ) (c : ℕ) → length (spaced (openNumbers slots c)) ≤ 86
+unfolding openNumbers
+numbers-most slots c = keep-shorter (open? slots c) (upFrom 0 32)
+
+slot-line-most : (slots : List ℕ) (c : ℕ) → c < 32 → length (slotLine slots c) ≤ callLineMost
+unfolding slotLine
+slot-line-most slots c h =
+    let numbers = openNumbers slots c in
+    omega (arith, line-length 99 (c ∷ numbers), spaced-length c numbers, two-digits c (omega arith), numbers-most slots c)
+
+pub call-lines-most : (slots : List ℕ) (n : ℕ) → n ≤ 32 → length (joined (slotLine slots) n) ≤ callLineMost * n
+call-lines-most slots n h = joined-most (slotLine slots) callLineMost n (λ c lc. slot-line-most slots c (omega arith))

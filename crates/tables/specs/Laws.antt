@@ -1,0 +1,6 @@
+-- The theorems over the definitions.
+pub mod Facts
+pub mod Sweep
+pub mod Assign
+pub mod Count
+pub mod Lost

@@ -1,0 +1,89 @@
+/* Measures the stack that the library's functions need, which no contract speaks of: a thread paints its stack, sends a command or asks the questions, and
+   looks how deep the paint is gone. The board is the largest, and its commands strike, reopen and refuse. Fails where it is more than the header says. */
+#define _XOPEN_SOURCE 700
+#include "berth.h"
+#include <pthread.h>
+#include <stdio.h>
+
+enum { AREA = 1 << 20, PAINT = 0xA5, OWN = 256 };
+
+static uint8_t area[AREA] __attribute__((aligned(4096)));
+static struct berth_board board;
+static size_t deepest;
+static unsigned long commands;
+
+/* Paints all of the thread's stack that lies below this function's own frame. */
+static __attribute__((noinline)) void paint(void) {
+    const uint8_t *frame = __builtin_frame_address(0);
+    memset(area, PAINT, (size_t)(frame - area) - OWN);
+}
+
+static __attribute__((noinline)) void look(const uint8_t *place) {
+    size_t left = 0;
+    while (area[left] == PAINT)
+        left++;
+    size_t depth = (size_t)(place - area) - left;
+    deepest = depth > deepest ? depth : deepest;
+}
+
+static void command(struct berth_command_bytes made) {
+    const uint8_t *place = __builtin_frame_address(0);
+    paint();
+    berth_board_obey(&board, made);
+    look(place);
+    commands++;
+}
+
+static void questions(uint8_t number) {
+    const uint8_t *place = __builtin_frame_address(0);
+    paint();
+    berth_board_open_slots(&board, number);
+    berth_board_slot_state(&board, number, 31);
+    berth_board_row_state(&board, number, 31);
+    berth_board_row_bytes(&board, number, 31);
+    berth_board_support(&board, number, 0, 31);
+    look(place);
+}
+
+/* A rule with as many rows as the slots given: the same slot in each column. */
+static void rule(uint8_t number, const uint8_t *calls, size_t arity, uint8_t slots) {
+    command(berth_make_head(number, calls, arity));
+    for (uint8_t slot = 0; slot < slots; slot++) {
+        uint8_t row[4] = {slot, slot, slot, slot};
+        command(berth_make_row(row, arity));
+    }
+    command(berth_make_put());
+}
+
+/* Rules of four neighbours, twice over, then one that leaves a single slot of each call, put and lifted. */
+static void *session(void *nothing) {
+    uint8_t counts[33];
+    memset(counts, 32, sizeof counts);
+    command(berth_make_lift(0));
+    command(berth_make_board(counts, 32));
+    for (uint8_t number = 0; number < 63; number++) {
+        uint8_t calls[4];
+        for (uint8_t k = 0; k < 4; k++)
+            calls[k] = (uint8_t)((number + k) % 32);
+        rule(number, calls, 4, 32);
+    }
+    rule(63, (const uint8_t[]){0}, 1, 1);
+    questions(0);
+    command(berth_make_put());
+    for (int number = 63; number >= 0; number--)
+        command(berth_make_lift((uint8_t)number));
+    questions(0);
+    command(berth_make_board(counts, 33));
+    return nothing;
+}
+
+int main(void) {
+    pthread_attr_t attributes;
+    pthread_t thread;
+    if (pthread_attr_init(&attributes) != 0 || pthread_attr_setstack(&attributes, area, AREA) != 0)
+        return 1;
+    if (!berth_board_clear(&board) || pthread_create(&thread, &attributes, session, NULL) != 0 || pthread_join(thread, NULL) != 0)
+        return 1;
+    printf("stack: %zu bytes at most over %lu commands; the header says %d\n", deepest, commands, BERTH_STACK);
+    return deepest > BERTH_STACK;
+}

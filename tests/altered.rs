@@ -1,0 +1,118 @@
+//! Commands and questions on memory with any contents and of any lengths: every call returns, nothing outside the buffers changes, and a refusal changes
+//! nothing. (host.rs asserts it of each command.)
+
+use crate::berth::Value;
+use crate::host::{number_of, Fenced, Host};
+use crate::ledger::{LAST_KIND, LENGTHS, LIFT, PUT};
+use crate::random::Random;
+use crate::writer::{any_command, board, SIZES};
+
+const HOSTS: u64 = 6000;
+const COMMANDS: usize = 6;
+
+/// Bytes of one sort: any, small ones, limits, all the same, or few among 255 or 0.
+fn some_bytes(random: &mut Random, length: usize) -> Vec<u8> {
+    let limits = [0, 1, 3, 4, 5, 31, 32, 33, 63, 64, 65, 127, 128, 253, 254, 255];
+    let (same, sort) = (random.byte(), random.below(6));
+    let mut byte = || match sort {
+        0 => random.byte(),
+        1 => random.below(5) as u8,
+        2 => *random.choose(&limits),
+        3 => same,
+        4 if random.percent(90) => 255,
+        5 if random.percent(90) => 0,
+        _ => random.byte(),
+    };
+    (0..length).map(|_| byte()).collect()
+}
+
+/// The value as bytes: its fields are bytes throughout, so any bytes are one and none lies between them.
+fn value_bytes(value: &mut Value) -> &mut [u8] {
+    const { assert!(align_of::<Value>() == 1) };
+    unsafe { std::slice::from_raw_parts_mut((value as *mut Value).cast(), size_of::<Value>()) }
+}
+
+/// Parts of the value, each with bytes of another sort.
+fn fill_value(random: &mut Random, value: &mut Value) {
+    for part in value_bytes(value).chunks_mut(32) {
+        part.copy_from_slice(&some_bytes(random, part.len()));
+    }
+}
+
+/// Mostly of its length.
+fn some_buffer(random: &mut Random, right: usize) -> Fenced {
+    let length = match random.below(20) {
+        0 => 0,
+        1 => right - 1,
+        2 => right + 1,
+        3 => random.below(2 * right),
+        _ => right,
+    };
+    Fenced::new(&some_bytes(random, length))
+}
+
+/// Any contents, or what a list left, with some bytes altered.
+fn some_host(random: &mut Random, left: &[Host]) -> Host {
+    let mut host = random.choose(left).clone();
+    if random.percent(50) {
+        fill_value(random, &mut host.value);
+        host.buffers = std::array::from_fn(|i| some_buffer(random, LENGTHS[i]));
+        return host;
+    }
+    for _ in 0..random.between((1, 40)) {
+        let part = match random.below(LENGTHS.len() + 2) {
+            i if i < LENGTHS.len() => host.buffers[i].inside_mut(),
+            _ => value_bytes(&mut host.value),
+        };
+        part[random.below(part.len())] = some_bytes(random, 1)[0];
+    }
+    host
+}
+
+/// Mostly puts and lifts, which do most there.
+fn some_command(random: &mut Random) -> Vec<u8> {
+    match random.below(60) {
+        0 => board(random, &SIZES[0]),
+        1..=16 => vec![PUT],
+        17..=32 => vec![LIFT, random.below(65) as u8],
+        33..=50 => any_command(random),
+        _ => {
+            let length = random.below(40);
+            some_bytes(random, length)
+        }
+    }
+}
+
+/// All questions with any numbers. None changes anything; the row's bytes are a part of the buffer, and the empty part where the row's state is refused.
+fn ask(random: &mut Random, host: &Host) {
+    let before = host.clone();
+    let n = some_bytes(random, 7);
+    let memory = host.memory();
+    let _ = memory.open_slots(n[0]);
+    let _ = memory.slot_state(n[0], n[1]);
+    let refusal = number_of(&memory.row_state(n[2], n[3]));
+    assert_eq!(memory.row_bytes(n[2], n[3]).len(), if refusal == 0 { 4 } else { 0 }, "the row's bytes");
+    let _ = memory.support(n[4], n[5], n[6]);
+    assert!(*host == before, "a question changes something");
+}
+
+pub fn run(left: &[Host]) {
+    let mut accepted = [0; LAST_KIND as usize + 1];
+    for seed in 0..HOSTS {
+        crate::place::list("altered memory", seed);
+        let random = &mut Random(seed);
+        let mut host = some_host(random, left);
+        for index in 0..COMMANDS {
+            crate::place::command(index);
+            let bytes = some_command(random);
+            if host.command(&bytes).0.is_ok() {
+                accepted[bytes[0] as usize] += 1;
+            }
+            ask(random, &host);
+        }
+    }
+    let accepted = &accepted[1..];
+    assert!(!accepted.contains(&0), "a kind was never accepted: {accepted:?}");
+    let commands = HOSTS as usize * COMMANDS;
+    println!("altered memory: {commands} commands, accepted by kind {accepted:?}; {} questions", 5 * commands);
+}

@@ -1,0 +1,188 @@
+//! The ledger (SCOPE 6.5), written for the tests and apart from the board: the calls' slot counts, the draft and the rules, when a command or a question is
+//! refused, and what a command does. A new kind of command is added to the constants, to `body_length`, `kind_refusal`, `obey` and `writes_draft_only` here,
+//! to `report_of` in filter.rs and `touched_limits` in session.rs, and to what writer.rs writes.
+
+use std::collections::BTreeMap;
+
+pub const BOARD: u8 = 1;
+pub const HEAD: u8 = 2;
+pub const ROW: u8 = 3;
+pub const PUT: u8 = 4;
+pub const LIFT: u8 = 5;
+pub const LAST_KIND: u8 = LIFT;
+
+/// Refusals have the numbers up to this one.
+pub const LAST_REFUSAL: usize = 21;
+
+/// The lengths of the lent buffers: rows, killers, slots.
+pub type Lengths = [usize; 3];
+pub const LENGTHS: Lengths = [64 * 64 * 4, 64 * 64, 32 * 32];
+
+/// How many bytes follow the byte of a kind; none where there is no such kind.
+pub fn body_length(kind: u8) -> Option<usize> {
+    match kind {
+        BOARD => Some(32),
+        HEAD => Some(6),
+        ROW => Some(4),
+        PUT => Some(0),
+        LIFT => Some(1),
+        _ => None,
+    }
+}
+
+/// An accepted command of this kind leaves the buffers as they were.
+pub fn writes_draft_only(kind: u8) -> bool {
+    matches!(kind, HEAD | ROW)
+}
+
+/// A row has a slot for each of the calls, and 255 in the columns past them.
+#[derive(Clone, Debug, Default)]
+pub struct Rule {
+    pub calls: Vec<u8>,
+    pub rows: Vec<[u8; 4]>,
+}
+
+impl Rule {
+    /// The call and the slot in each column of a row.
+    pub fn cells(&self, row: [u8; 4]) -> impl Iterator<Item = (u8, u8)> + '_ {
+        self.calls.iter().copied().zip(row)
+    }
+}
+
+#[derive(Clone, Debug, Default)]
+pub struct Ledger {
+    /// the slots of each call
+    pub counts: Vec<u8>,
+    /// the draft, and the number that it is to come into force under
+    pub draft: Option<(u8, Rule)>,
+    pub rules: BTreeMap<u8, Rule>,
+}
+
+/// The number of the first condition that holds, or 0.
+fn first(conditions: &[(u8, bool)]) -> u8 {
+    conditions.iter().find(|(_, holds)| *holds).map_or(0, |(number, _)| *number)
+}
+
+fn bad_counts(counts: &[u8]) -> bool {
+    let calls = counts.iter().take_while(|count| **count != 0).count();
+    calls == 0 || counts.iter().any(|count| *count > 32) || counts[calls..].iter().any(|count| *count != 0)
+}
+
+fn bad_spare(fields: &[u8]) -> bool {
+    fields.iter().any(|field| *field != 255)
+}
+
+/// The refusal of what stands first in these bytes, whatever follows it: 3, 4, or 0.
+pub fn read_refusal(bytes: &[u8]) -> u8 {
+    let length = bytes.first().and_then(|kind| body_length(*kind));
+    first(&[(3, length.is_none()), (4, length.is_some_and(|length| bytes.len() < 1 + length))])
+}
+
+impl Ledger {
+    /// The slots of a call; 0 where there is no such call.
+    pub fn count(&self, call: u8) -> u8 {
+        self.counts.get(call as usize).copied().unwrap_or(0)
+    }
+
+    /// The refusal of a command by its bytes and the lengths of the buffers lent with it, or 0. Bytes left over count as a body of another length.
+    pub fn refusal(&self, lent: Lengths, bytes: &[u8]) -> u8 {
+        let formal = first(&[(1, lent != LENGTHS), (read_refusal(bytes), read_refusal(bytes) != 0)]);
+        if formal != 0 {
+            return formal;
+        }
+        let (kind, body) = (bytes[0], &bytes[1..]);
+        first(&[(4, Some(body.len()) != body_length(kind)), (self.kind_refusal(kind, body), true)])
+    }
+
+    fn kind_refusal(&self, kind: u8, body: &[u8]) -> u8 {
+        match kind {
+            BOARD => first(&[(5, bad_counts(&body[..32]))]),
+            HEAD => self.head_refusal(body[0], body[1] as usize, &body[2..6]),
+            ROW => self.row_refusal(&body[..4]),
+            PUT => self.put_refusal(),
+            LIFT => self.rule_refusal(body[0]),
+            _ => unreachable!(),
+        }
+    }
+
+    fn no_board(&self) -> bool {
+        self.counts.is_empty()
+    }
+
+    fn head_refusal(&self, number: u8, arity: usize, fields: &[u8]) -> u8 {
+        let (calls, spare) = fields.split_at(arity.min(4));
+        first(&[
+            (6, self.no_board()),
+            (7, number > 63),
+            (8, !(1..=4).contains(&arity)),
+            (9, calls.iter().any(|call| self.count(*call) == 0)),
+            (10, (0..calls.len()).any(|k| calls[..k].contains(&calls[k]))),
+            (11, bad_spare(spare)),
+        ])
+    }
+
+    fn row_refusal(&self, row: &[u8]) -> u8 {
+        let none = Rule::default();
+        let Rule { calls, rows } = self.draft.as_ref().map_or(&none, |(_, rule)| rule);
+        let (slots, spare) = row.split_at(calls.len());
+        first(&[
+            (6, self.no_board()),
+            (12, self.draft.is_none()),
+            (13, rows.len() == 64),
+            (14, calls.iter().zip(slots).any(|(call, slot)| *slot >= self.count(*call))),
+            (11, bad_spare(spare)),
+            (15, rows.iter().any(|other| other == row)),
+        ])
+    }
+
+    fn put_refusal(&self) -> u8 {
+        let taken = self.draft.as_ref().is_some_and(|(number, _)| self.rules.contains_key(number));
+        first(&[(6, self.no_board()), (12, self.draft.is_none()), (16, taken)])
+    }
+
+    /// Of a lift, and of a question about a rule.
+    fn rule_refusal(&self, number: u8) -> u8 {
+        first(&[(6, self.no_board()), (7, number > 63), (17, !self.rules.contains_key(&number))])
+    }
+
+    pub fn call_refusal(&self, call: u8) -> u8 {
+        first(&[(6, self.no_board()), (18, self.count(call) == 0)])
+    }
+
+    pub fn slot_refusal(&self, call: u8, slot: u8) -> u8 {
+        let before = self.call_refusal(call);
+        first(&[(before, before != 0), (19, slot >= self.count(call))])
+    }
+
+    pub fn row_state_refusal(&self, number: u8, row: u8) -> u8 {
+        let before = self.rule_refusal(number);
+        let rows = self.rules.get(&number).map_or(0, |rule| rule.rows.len());
+        first(&[(before, before != 0), (20, row as usize >= rows)])
+    }
+
+    pub fn support_refusal(&self, number: u8, column: u8, slot: u8) -> u8 {
+        let before = self.rule_refusal(number);
+        let call = self.rules.get(&number).and_then(|rule| rule.calls.get(column as usize));
+        let slots = call.map_or(0, |call| self.count(*call));
+        first(&[(before, before != 0), (21, call.is_none()), (19, slot >= slots)])
+    }
+
+    /// Carries out a command that is not refused.
+    pub fn obey(&mut self, bytes: &[u8]) {
+        let body = &bytes[1..];
+        match bytes[0] {
+            BOARD => {
+                let counts = body.iter().copied().take_while(|count| *count != 0).collect();
+                *self = Ledger { counts, ..Ledger::default() };
+            }
+            HEAD => {
+                let calls = body[2..][..body[1] as usize].to_vec();
+                self.draft = Some((body[0], Rule { calls, rows: vec![] }));
+            }
+            ROW => self.draft.as_mut().unwrap().1.rows.push(body.try_into().unwrap()),
+            PUT => self.rules.extend(self.draft.take()),
+            LIFT => drop(self.rules.remove(&body[0])),
+            _ => unreachable!(),
+        }
+    }
+}

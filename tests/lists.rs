@@ -1,0 +1,54 @@
+//! Random lists of commands, each on a board of its own.
+
+use crate::host::{number_of, Host};
+use crate::ledger;
+use crate::questions;
+use crate::session::Session;
+use crate::tally::Tally;
+use crate::writer::{Sizes, Writer, SIZES};
+
+/// A buffer is lent that is too short or too long.
+fn other_length(writer: &mut Writer, session: &mut Session, bytes: &[u8]) {
+    let mut host = session.host.clone();
+    questions::lend_other_length(&mut writer.random, &mut host);
+    let refusal = session.ledger.refusal(host.lengths(), bytes);
+    let (answer, _) = host.command(bytes);
+    assert_eq!(number_of(&answer), refusal, "the refusal of {bytes:?} with other lengths");
+    session.tally.command(refusal, &session.ledger);
+}
+
+/// One list. Returns what it leaves.
+fn list(seed: u64, sizes: &'static Sizes, tally: &mut Tally) -> Host {
+    let mut writer = Writer::new(seed, sizes);
+    let mut session = Session::new(tally);
+    for index in 0..sizes.commands {
+        crate::place::command(index);
+        let bytes = writer.next(&session.ledger);
+        if writer.random.below(64) == 0 {
+            other_length(&mut writer, &mut session, &bytes);
+        }
+        session.command(&bytes);
+        let changed = bytes.first().is_some_and(|kind| !ledger::writes_draft_only(*kind));
+        if changed || writer.random.below(10) == 0 {
+            questions::ask(&mut writer.random, &mut session);
+        }
+    }
+    session.check_board();
+    session.host
+}
+
+/// All lists. Returns what some of them leave.
+pub fn run(tally: &mut Tally) -> Vec<Host> {
+    let mut left = vec![];
+    for sizes in &SIZES {
+        for seed in 0..sizes.lists {
+            crate::place::list(sizes.name, seed);
+            let host = list(seed, sizes, tally);
+            tally.lists += 1;
+            if seed < 15 {
+                left.push(host);
+            }
+        }
+    }
+    left
+}

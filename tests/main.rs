@@ -1,0 +1,50 @@
+//! Tests of the board as users have it, the static library and the sheet program, against a second account of the board that shares no code with it: a ledger
+//! (ledger.rs), a filter from scratch (filter.rs) and a writer of sheets (sheet.rs). Seeds are fixed. They run in the repository's folder; tests/run builds
+//! what they need.
+//!
+//!     tests [samples | lists | sheets | broken]
+//!
+//! A word runs a part alone. With `broken` that is the lists, with a filter that stops after one pass: they have to fail.
+
+mod altered;
+#[path = "../hosts/berth.rs"]
+mod berth;
+mod filter;
+mod host;
+mod ledger;
+mod lists;
+mod place;
+mod questions;
+mod random;
+mod records;
+mod samples;
+mod session;
+mod sheet;
+mod tally;
+mod writer;
+
+fn main() {
+    let word = std::env::args().nth(1).unwrap_or_default();
+    if !["", "samples", "lists", "sheets", "broken"].contains(&&word[..]) {
+        eprintln!("usage: tests [samples | lists | sheets | broken]");
+        std::process::exit(2);
+    }
+    filter::STOPS_EARLY.store(word == "broken", std::sync::atomic::Ordering::Relaxed);
+    place::say_on_failure();
+    let mut tally = tally::Tally::default();
+    if matches!(&word[..], "" | "samples") {
+        samples::run(&mut tally);
+    }
+    if matches!(&word[..], "" | "lists" | "broken") {
+        let left = lists::run(&mut tally);
+        altered::run(&left);
+    }
+    if matches!(&word[..], "" | "sheets") {
+        sheet::run(&mut tally);
+    }
+    tally.print();
+    if word.is_empty() {
+        tally.check_complete();
+    }
+    println!("passed");
+}

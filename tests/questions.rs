@@ -1,0 +1,126 @@
+//! The five questions, asked with numbers near what there is and with any: refused as the ledger says, and answered as the open slots and the recorded bytes
+//! say. None changes anything.
+
+use crate::berth::{Answer, Row, Slot};
+use crate::filter::{has, is_alive};
+use crate::host::{number_of, Fenced, Host};
+use crate::ledger::{Ledger, LENGTHS};
+use crate::random::Random;
+use crate::session::Session;
+
+/// The numbers that the questions are asked with.
+#[derive(Debug)]
+struct Numbers {
+    call: u8,
+    slot: u8,
+    rule: u8,
+    row: u8,
+    column: u8,
+}
+
+fn some_numbers(random: &mut Random, ledger: &Ledger) -> Numbers {
+    let in_force: Vec<u8> = ledger.rules.keys().copied().collect();
+    let rule = if in_force.is_empty() || random.percent(20) { random.near(64) } else { *random.choose(&in_force) };
+    let rows = ledger.rules.get(&rule).map_or(1, |rule| rule.rows.len());
+    let call = random.near(ledger.counts.len());
+    let slots = if random.percent(50) { 32 } else { ledger.count(call) as usize };
+    Numbers { call, slot: random.near(slots), rule, row: random.near(rows), column: random.near(4) }
+}
+
+/// All five; now and then a buffer of another length is lent.
+pub fn ask(random: &mut Random, session: &mut Session) {
+    let numbers = &some_numbers(random, &session.ledger);
+    let right = session.host.clone();
+    if random.percent(2) {
+        lend_other_length(random, &mut session.host);
+    }
+    let before = session.host.clone();
+    session.ask_open_slots(numbers);
+    session.ask_slot_state(numbers);
+    session.ask_row_state(numbers);
+    session.ask_row_bytes(numbers);
+    session.ask_support(numbers);
+    assert!(session.host == before, "a question changes something");
+    session.host = right;
+}
+
+/// One of the buffers gets another length.
+pub fn lend_other_length(random: &mut Random, host: &mut Host) {
+    let buffer = random.below(LENGTHS.len());
+    let mut contents = host.buffers[buffer].inside().to_vec();
+    let length = *random.choose(&[0, 1, contents.len() - 1, contents.len() + 1]);
+    contents.resize(length, random.byte());
+    host.buffers[buffer] = Fenced::new(&contents);
+}
+
+impl Session<'_> {
+    /// The refusal of a question that the ledger refuses so, where the buffers are of their lengths.
+    fn due(&self, refusal: u8) -> u8 {
+        if self.host.lengths() == LENGTHS {
+            refusal
+        } else {
+            1
+        }
+    }
+
+    /// What is answered, where this refusal of the ledger's is none.
+    fn answered<T>(&mut self, n: &Numbers, refusal: u8, answer: Answer<T>) -> Option<T> {
+        let due = self.due(refusal);
+        assert_eq!(number_of(&answer), due, "a question's refusal: {n:?}");
+        self.tally.questions += 1;
+        self.tally.refusals[due as usize] += 1;
+        answer.ok()
+    }
+
+    fn ask_open_slots(&mut self, n: &Numbers) {
+        let answer = self.host.memory().open_slots(n.call);
+        let Some(given) = self.answered(n, self.ledger.call_refusal(n.call), answer) else { return };
+        let mask = self.open[n.call as usize];
+        assert_eq!((given.mask, given.ones), (mask, mask.count_ones()), "the mask: {n:?}");
+    }
+
+    fn ask_slot_state(&mut self, n: &Numbers) {
+        let answer = self.host.memory().slot_state(n.call, n.slot);
+        let Some(given) = self.answered(n, self.ledger.slot_refusal(n.call, n.slot), answer) else { return };
+        let cause = self.host.memory().slots[32 * n.call as usize + n.slot as usize];
+        let due = if has(&self.open, (n.call, n.slot)) { Slot::Open } else { Slot::Struck { cause } };
+        assert_eq!(given, due, "a slot's state: {n:?}");
+    }
+
+    fn ask_row_state(&mut self, n: &Numbers) {
+        let answer = self.host.memory().row_state(n.rule, n.row);
+        let Some(given) = self.answered(n, self.ledger.row_state_refusal(n.rule, n.row), answer) else { return };
+        let rule = &self.ledger.rules[&n.rule];
+        let killer = self.host.memory().killers[64 * n.rule as usize + n.row as usize];
+        let alive = is_alive(rule, rule.rows[n.row as usize], &self.open);
+        let due = if alive { Row::Alive } else { Row::Dead { killer } };
+        assert_eq!(given, due, "a row's state: {n:?}");
+    }
+
+    /// The row's bytes are a part of the lent rows; where the row's state is refused they are the empty part.
+    fn ask_row_bytes(&mut self, n: &Numbers) {
+        self.tally.questions += 1;
+        let memory = self.host.memory();
+        let bytes = memory.row_bytes(n.rule, n.row);
+        if self.due(self.ledger.row_state_refusal(n.rule, n.row)) != 0 {
+            assert!(bytes.is_empty(), "bytes of no row: {n:?}");
+            return;
+        }
+        let place = &memory.rows[256 * n.rule as usize + 4 * n.row as usize..][..4];
+        assert_eq!(bytes.as_ptr_range(), place.as_ptr_range(), "where a row's bytes are: {n:?}");
+        assert_eq!(bytes, self.ledger.rules[&n.rule].rows[n.row as usize], "a row's bytes: {n:?}");
+    }
+
+    fn ask_support(&mut self, n: &Numbers) {
+        let answer = self.host.memory().support(n.rule, n.column, n.slot);
+        let refusal = self.ledger.support_refusal(n.rule, n.column, n.slot);
+        let Some(given) = self.answered(n, refusal, answer) else { return };
+        let rule = &self.ledger.rules[&n.rule];
+        let supports = |row: &[u8; 4]| row[n.column as usize] == n.slot && is_alive(rule, *row, &self.open);
+        let right = match given {
+            Some(row) => rule.rows.get(row as usize).is_some_and(supports),
+            None => !rule.rows.iter().any(supports),
+        };
+        assert!(right, "the support is {given:?}: {n:?}");
+    }
+}

@@ -1,0 +1,76 @@
+//! A host's board beside a ledger and a filter from scratch: each answer, report, field and byte is held to theirs.
+
+use crate::berth::{Board, Report};
+use crate::filter::{self, Slots};
+use crate::host::{number_of, value_of, Host};
+use crate::ledger::{self, Ledger};
+use crate::tally::Tally;
+use std::ops::RangeInclusive;
+
+pub struct Session<'a> {
+    pub host: Host,
+    /// the same commands on the wrapper's own board
+    pub board: Board,
+    pub ledger: Ledger,
+    pub open: Slots,
+    pub tally: &'a mut Tally,
+}
+
+/// What T may be; so many slots were struck before.
+fn touched_limits(kind: u8, struck: usize, reopened: usize, struck_before: usize) -> RangeInclusive<usize> {
+    match kind {
+        ledger::PUT => struck..=struck,
+        ledger::LIFT => reopened..=struck_before,
+        _ => 0..=0,
+    }
+}
+
+impl<'a> Session<'a> {
+    pub fn new(tally: &'a mut Tally) -> Self {
+        let (host, board, ledger) = (Host::fresh(), Board::new(), Ledger::default());
+        assert_eq!(host.value, value_of(&ledger), "the value before the first command");
+        Session { host, board, ledger, open: vec![], tally }
+    }
+
+    pub fn command(&mut self, bytes: &[u8]) {
+        let refusal = self.ledger.refusal(self.host.lengths(), bytes);
+        let (answer, before) = self.host.command(bytes);
+        assert_eq!(answer, self.board.command(bytes), "two answers to {bytes:?}");
+        assert_eq!(number_of(&answer), refusal, "the refusal of {bytes:?}");
+        self.tally.command(refusal, &self.ledger);
+        if let Ok(report) = answer {
+            self.accepted(bytes, report, &before);
+        }
+    }
+
+    /// The ledger follows, and the value, every byte and the report are as it says.
+    fn accepted(&mut self, bytes: &[u8], report: Report, before: &Host) {
+        self.ledger.obey(bytes);
+        assert_eq!(self.host.value, value_of(&self.ledger), "the value after {bytes:?}");
+        let open_before = self.open.clone();
+        if ledger::writes_draft_only(bytes[0]) {
+            assert!(self.host.buffers == before.buffers, "{bytes:?} writes to the buffers");
+        } else {
+            self.open = filter::open_slots(&self.ledger);
+            crate::records::check(&self.ledger, &self.open, self.host.memory());
+        }
+        self.check_report(bytes, report, &open_before);
+    }
+
+    fn check_report(&mut self, bytes: &[u8], report: Report, open_before: &Slots) {
+        let (struck, reopened) = filter::report_of(bytes[0], open_before, &self.open);
+        assert_eq!((report.struck, report.reopened), (struck, reopened), "S and R of {bytes:?}");
+        let struck_before = filter::lost(&filter::all_slots(&self.ledger), open_before);
+        let limits = touched_limits(bytes[0], struck, reopened, struck_before);
+        assert!(limits.contains(&report.touched), "T of {bytes:?} is {}, and not in {limits:?}", report.touched);
+        self.tally.report(report);
+    }
+
+    /// The wrapper's own board has come to hold the same.
+    pub fn check_board(&self) {
+        let (board, host) = (self.board.memory(), self.host.memory());
+        assert!(board.value == host.value, "the wrapper's board has another value");
+        let same = (board.rows, board.killers, board.slots) == (host.rows, host.killers, host.slots);
+        assert!(same, "the wrapper's board has other bytes");
+    }
+}

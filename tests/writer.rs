@@ -1,0 +1,202 @@
+//! The writer of random commands: what a list is to do next is planned from the ledger, and some commands are damaged. Whether one is refused is not for the
+//! writer to know.
+
+use crate::ledger::{self, Ledger, BOARD, HEAD, LAST_KIND, LIFT, PUT, ROW};
+use crate::random::Random;
+use std::collections::VecDeque;
+
+/// The limits of a list's boards and rules.
+pub struct Sizes {
+    pub name: &'static str,
+    pub lists: u64,
+    /// commands of a list
+    pub commands: usize,
+    pub calls: (usize, usize),
+    pub slots: (usize, usize),
+    /// rows of a rule whose rows are any
+    pub rows: usize,
+    /// rule numbers in use
+    pub numbers: usize,
+    /// in a hundred plans
+    pub lifts: usize,
+}
+
+#[rustfmt::skip]
+pub const SIZES: [Sizes; 4] = [
+    Sizes { name: "small", lists: 4000, commands: 120, calls: (1, 5), slots: (1, 4), rows: 10, numbers: 9, lifts: 50 },
+    Sizes { name: "middle", lists: 500, commands: 400, calls: (3, 12), slots: (2, 12), rows: 40, numbers: 24, lifts: 40 },
+    Sizes { name: "large", lists: 70, commands: 1200, calls: (20, 32), slots: (16, 32), rows: 64, numbers: 64, lifts: 35 },
+    Sizes { name: "full", lists: 5, commands: 7000, calls: (32, 32), slots: (32, 32), rows: 64, numbers: 64, lifts: 8 },
+];
+
+pub struct Writer {
+    pub random: Random,
+    sizes: &'static Sizes,
+    /// commands to come
+    plan: VecDeque<Vec<u8>>,
+}
+
+/// A command's bytes, with 255 in the fields that are left out.
+fn command(kind: u8, fields: &[u8]) -> Vec<u8> {
+    let mut bytes = [&[kind], fields].concat();
+    bytes.resize(1 + ledger::body_length(kind).unwrap_or(fields.len()), 255);
+    bytes
+}
+
+impl Writer {
+    pub fn new(seed: u64, sizes: &'static Sizes) -> Self {
+        Writer { random: Random(seed), sizes, plan: VecDeque::new() }
+    }
+
+    /// The next command. About one in eight is a damaged copy of what is planned, which then comes all the same; now and then a plan is given up.
+    pub fn next(&mut self, ledger: &Ledger) -> Vec<u8> {
+        if self.plan.is_empty() || self.random.below(200) == 0 {
+            self.plan = self.new_plan(ledger).into();
+        }
+        if self.random.below(8) == 0 {
+            return damaged(&mut self.random, &self.plan[0], ledger);
+        }
+        self.plan.pop_front().unwrap()
+    }
+
+    fn new_plan(&mut self, ledger: &Ledger) -> Vec<Vec<u8>> {
+        let random = &mut self.random;
+        if random.below(self.sizes.commands) == 0 || ledger.counts.is_empty() && random.percent(75) {
+            return vec![board(random, self.sizes)];
+        }
+        if let Some((number, _)) = ledger.draft.as_ref().filter(|_| random.percent(50)) {
+            let taken = ledger.rules.contains_key(number);
+            return if taken { vec![vec![LIFT, *number], vec![PUT]] } else { vec![vec![PUT]] };
+        }
+        if random.percent(self.sizes.lifts) {
+            return vec![vec![LIFT, in_force(random, ledger)]];
+        }
+        self.rule(ledger)
+    }
+
+    /// The head, the rows and the put of a rule. Its number is mostly free.
+    fn rule(&mut self, ledger: &Ledger) -> Vec<Vec<u8>> {
+        let random = &mut self.random;
+        let calls = some_calls(random, ledger.counts.len());
+        let mut numbers: Vec<u8> = (0..self.sizes.numbers as u8).collect();
+        if random.below(8) != 0 && ledger.rules.len() < numbers.len() {
+            numbers.retain(|number| !ledger.rules.contains_key(number));
+        }
+        let number = *random.choose(&numbers);
+        let head = command(HEAD, &[&[number, calls.len() as u8], &calls[..]].concat());
+        let counts: Vec<usize> = calls.iter().map(|call| ledger.count(*call).max(1) as usize).collect();
+        let rows = some_rows(random, &counts, self.sizes.rows);
+        let rows = rows.iter().map(|row| command(ROW, row));
+        [vec![head], rows.collect(), vec![vec![PUT]]].concat()
+    }
+}
+
+pub fn board(random: &mut Random, sizes: &Sizes) -> Vec<u8> {
+    let mut bytes = vec![0; 33];
+    bytes[0] = BOARD;
+    for place in 1..=random.between(sizes.calls) {
+        bytes[place] = random.between(sizes.slots) as u8;
+    }
+    bytes
+}
+
+/// One of the numbers in force; any where there is none.
+fn in_force(random: &mut Random, ledger: &Ledger) -> u8 {
+    let numbers: Vec<u8> = ledger.rules.keys().copied().collect();
+    if numbers.is_empty() {
+        random.byte()
+    } else {
+        *random.choose(&numbers)
+    }
+}
+
+/// The calls of a rule on a board of n calls: different ones, mostly neighbours in a circle, so that strikes come around.
+fn some_calls(random: &mut Random, n: usize) -> Vec<u8> {
+    let arity = (*random.choose(&[1, 2, 2, 2, 2, 3, 3, 4])).min(n.max(1));
+    let first = random.below(n.max(1));
+    if random.percent(75) {
+        let step = if random.percent(60) { 1 } else { n.max(1) - 1 };
+        return (0..arity).map(|k| ((first + k * step) % n.max(1)) as u8).collect();
+    }
+    let mut calls: Vec<u8> = (0..n.max(1) as u8).collect();
+    (0..arity).map(|_| calls.swap_remove(random.below(calls.len()))).collect()
+}
+
+/// The rows of a rule on calls with these slot counts: any, mostly equal slots, or one or two rows for each slot. The last sort, with some rows left out, makes
+/// slots that lose their support through each other.
+fn some_rows(random: &mut Random, counts: &[usize], most: usize) -> Vec<Vec<u8>> {
+    let slots = *counts.iter().max().unwrap();
+    let shift = random.below(3);
+    let number = random.below(most + 2);
+    let mut rows: Vec<Vec<u8>> = match random.below(20) {
+        0 => vec![],
+        1..=3 => (0..number).map(|_| any_row(random, counts)).collect(),
+        4..=6 => (0..number).map(|_| equal_row(random, counts)).collect(),
+        7..=13 => (0..slots).map(|slot| shifted_row(counts, slot, shift)).collect(),
+        _ => (0..2 * slots).map(|place| shifted_row(counts, place / 2, shift + place % 2)).collect(),
+    };
+    if counts.len() == 1 || random.percent(40) {
+        for _ in 0..random.between((1, 3)).min(rows.len()) {
+            rows.swap_remove(random.below(rows.len()));
+        }
+    } else if random.percent(20) {
+        rows.extend((0..3).map(|_| any_row(random, counts)));
+    }
+    rows
+}
+
+fn any_row(random: &mut Random, counts: &[usize]) -> Vec<u8> {
+    counts.iter().map(|count| random.below(*count) as u8).collect()
+}
+
+/// In each column the slot that lies so much further on than in the one before.
+fn shifted_row(counts: &[usize], slot: usize, shift: usize) -> Vec<u8> {
+    (0..).zip(counts).map(|(column, count)| ((slot + column * shift) % count) as u8).collect()
+}
+
+fn equal_row(random: &mut Random, counts: &[usize]) -> Vec<u8> {
+    if random.percent(25) {
+        any_row(random, counts)
+    } else {
+        shifted_row(counts, random.below(32), 0)
+    }
+}
+
+/// A command of any kind with any fields, many of them near what a board takes.
+pub fn any_command(random: &mut Random) -> Vec<u8> {
+    let kind = random.below(LAST_KIND as usize + 2) as u8;
+    let limit = *random.choose(&[5, 8, 66, 256]);
+    let columns = random.between((1, 4));
+    let length = ledger::body_length(kind).unwrap_or(3);
+    let mut bytes = vec![kind];
+    bytes.extend((0..length).map(|_| if random.percent(15) { 255 } else { random.below(limit) as u8 }));
+    match kind {
+        HEAD if random.percent(70) => {
+            bytes[2] = columns as u8;
+            bytes[3 + columns..].fill(255);
+        }
+        ROW if random.percent(70) => bytes[1 + columns..].fill(255),
+        _ => (),
+    }
+    bytes
+}
+
+/// The command with one thing wrong, or another in its place; it may turn out to be a good one.
+fn damaged(random: &mut Random, planned: &[u8], ledger: &Ledger) -> Vec<u8> {
+    let mut bytes = planned.to_vec();
+    let last = bytes.len() - 1;
+    let place = random.below(last + 1);
+    match random.below(8) {
+        0 => bytes.truncate(place),
+        1 => bytes.push(random.byte()),
+        2 => bytes[place] = random.byte(),
+        3 | 4 => bytes[place.max(last.min(1))] = random.below(6) as u8,
+        5 => bytes = vec![LIFT, 60 + random.below(8) as u8],
+        6 => {
+            let rows = ledger.draft.iter().flat_map(|(_, rule)| &rule.rows);
+            bytes = rows.last().map_or(vec![], |row| command(ROW, row));
+        }
+        _ => bytes = any_command(random),
+    }
+    bytes
+}
