@@ -33,7 +33,7 @@ struct Case {
     counts: Vec<u8>,
     rules: Vec<Rule>,
     /// places in `rules`
-    turns: Vec<usize>,
+    measured: Vec<usize>,
     rounds: usize,
 }
 
@@ -48,7 +48,7 @@ fn busiest() -> Case {
         name: "order 13",
         counts: vec![32; 32],
         rules: (0..64).map(rule).collect(),
-        turns: (0..64).collect(),
+        measured: (0..64).collect(),
         rounds: 400,
     }
 }
@@ -70,7 +70,7 @@ fn dense(name: &'static str, number_of_rules: usize, rounds: usize) -> Case {
         rows.extend((8..64).map(|_| vec![below(32), below(32), below(32)]));
         rules.push(Rule::new(r, &calls, rows));
     }
-    Case { name, counts: vec![32; 32], turns: (0..rules.len()).collect(), rules, rounds }
+    Case { name, counts: vec![32; 32], measured: (0..rules.len()).collect(), rules, rounds }
 }
 
 /// Equal slots from call to call, and one rule at the end of the chain that leaves a single slot: putting it strikes 992 slots, and lifting it reopens them.
@@ -78,7 +78,7 @@ fn chain() -> Case {
     let link = |c: usize| Rule::new(c, &[c, c + 1], (0..32).map(|s| vec![s, s]).collect());
     let mut rules: Vec<Rule> = (0..31).map(link).collect();
     rules.push(Rule::new(63, &[0], vec![vec![0]]));
-    Case { name: "long chain", counts: vec![32; 32], rules, turns: vec![31], rounds: 2000 }
+    Case { name: "long chain", counts: vec![32; 32], rules, measured: vec![31], rounds: 2000 }
 }
 
 /// Six calls of eight slots: each goes before the next, two have slots of their own, and three lie apart from each other.
@@ -92,7 +92,7 @@ fn everyday() -> Case {
     rules.push(Rule::new(6, &[3], vec![vec![3], vec![5]]));
     let apart = (0..8).flat_map(|a| [vec![a, (a + 2) % 8, (a + 4) % 8], vec![a, (a + 3) % 8, (a + 5) % 8]]);
     rules.push(Rule::new(7, &[1, 3, 5], apart.collect()));
-    Case { name: "everyday", counts: vec![8; 6], turns: (0..rules.len()).collect(), rules, rounds: 2000 }
+    Case { name: "everyday", counts: vec![8; 6], measured: (0..rules.len()).collect(), rules, rounds: 2000 }
 }
 
 /// Nanoseconds that reading the clock takes by itself.
@@ -102,7 +102,7 @@ fn clock_cost() -> u64 {
     median(&times)
 }
 
-/// Nanoseconds of each timed command: by kind, and for each turn of a round those of all rounds.
+/// Nanoseconds of each timed command: by kind, and for each measured rule those of all rounds.
 struct Times {
     lifts: Vec<Vec<u64>>,
     puts: Vec<Vec<u64>>,
@@ -110,7 +110,7 @@ struct Times {
 
 impl Times {
     fn of(case: &Case) -> Self {
-        let none = vec![vec![]; case.turns.len()];
+        let none = vec![vec![]; case.measured.len()];
         Times { lifts: none.clone(), puts: none }
     }
 }
@@ -121,10 +121,10 @@ fn median(times: &[u64]) -> u64 {
     times[times.len() / 2]
 }
 
-/// The mean over the turns of each one's median, less what reading the clock takes.
-fn mean(turns: &[Vec<u64>], clock: u64) -> f64 {
-    let sum: u64 = turns.iter().map(|times| median(times)).sum();
-    sum as f64 / turns.len() as f64 - clock as f64
+/// The mean over the measured rules of each one's median, less what reading the clock takes.
+fn mean(rules: &[Vec<u64>], clock: u64) -> f64 {
+    let sum: u64 = rules.iter().map(|times| median(times)).sum();
+    sum as f64 / rules.len() as f64 - clock as f64
 }
 
 /// The open slots after each lift and put of one round.
@@ -231,16 +231,16 @@ fn timed(times: &mut Vec<u64>, work: impl FnOnce()) {
     times.push(start.elapsed().as_nanos() as u64);
 }
 
-/// One round: each rule of the turns is lifted and put again.
+/// One round: each measured rule is lifted and put again.
 fn round<S: Side>(side: &mut S, case: &Case, times: &mut Times, mut shown: Option<&mut Shown>) {
-    for (turn, place) in case.turns.iter().enumerate() {
+    for (k, place) in case.measured.iter().enumerate() {
         let rule = &case.rules[*place];
-        timed(&mut times.lifts[turn], || side.lift(rule.number));
+        timed(&mut times.lifts[k], || side.lift(rule.number));
         if let Some(shown) = &mut shown {
             shown.push(side.shown());
         }
         side.prepare(rule);
-        timed(&mut times.puts[turn], || side.put());
+        timed(&mut times.puts[k], || side.put());
         if let Some(shown) = &mut shown {
             shown.push(side.shown());
         }
@@ -274,7 +274,7 @@ fn measure(case: &Case, clock: u64) {
     }
     let last = (ours.shown(), afresh.shown(), native.shown());
     assert!(last.0 == last.1 && last.0 == last.2, "{}: other open slots at the end", case.name);
-    let commands = (case.turns.len() * case.rounds) as f64;
+    let commands = (case.measured.len() * case.rounds) as f64;
     let each = |n: usize| n as f64 / commands;
     let changes = ours.changes;
     let (struck, reopened, touched) = (each(changes.struck), each(changes.reopened), each(changes.touched));
@@ -314,7 +314,7 @@ fn chosen(name: &str) -> Vec<Case> {
 fn main() {
     let cases = chosen(&std::env::args().nth(1).unwrap_or_default());
     let clock = clock_cost();
-    println!("Nanoseconds per command, the mean over the turns of a round of each one's median; reading the clock, {} ns, is taken off.\nA ratio above 1: the library is faster.\n", clock);
+    println!("Nanoseconds per command, the mean over the measured rules of each one's median; reading the clock, {} ns, is taken off.\nA ratio above 1: the library is faster.\n", clock);
     println!(
         "| {:10} | {:4} | {:31} | {:>9} | {:>9} | {:5} | {:>9} | {:5} |",
         "board", "kind", "slots, per command", "library", "afresh", "ratio", "native", "ratio"

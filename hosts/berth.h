@@ -44,14 +44,17 @@ extern "C" {
 #define BERTH_SLOTS 1024
 #define BERTH_VALUE_SIZE 679
 
+/* The longest file of commands that is read. */
+#define BERTH_FILE 32768
+
 /*
  * The stack that a call needs, with the copies of the value that its caller makes. It is measured and not proved: on x86-64, over every function and the
- * commands of a full board, hosts/stack.c found 4,840 bytes where its caller was compiled without optimisation, and 4,632 with it.
+ * commands of a full board, hosts/stack.c found 9,064 bytes where its caller was compiled without optimisation, and 8,584 with it.
  */
-#define BERTH_STACK 8192
+#define BERTH_STACK 12288
 
 /* The version that this header is of. It rises with any change of a struct, of a function or of what one means. */
-#define BERTH_VERSION 1
+#define BERTH_VERSION 2
 
 /* The version of the library, and the bytes of its value. They are plain numbers, so that they can be asked whatever else differs. */
 uint32_t berth_version(void);
@@ -62,7 +65,7 @@ enum berth_kind { BERTH_BOARD = 1, BERTH_HEAD = 2, BERTH_ROW = 3, BERTH_PUT = 4,
 
 /*
  * A reply's number: 0, or why it was refused; berth_refusal_text has the conditions. The first that holds decides: commands and questions check in the order
- * that stands with them below. BERTH_FILE_LENGTH is the sheet program's alone.
+ * that stands with them below. BERTH_FILE_LENGTH is of whole files alone, of berth_replay's and the sheet program's.
  */
 enum berth_refusal {
     BERTH_BUFFER_LENGTH = 1,
@@ -171,6 +174,27 @@ struct berth_command_reply {
 struct berth_command_reply berth_command(struct berth_value value, const uint8_t *bytes, size_t bytes_length, uint8_t *rows, size_t rows_length,
                                          uint8_t *killers, size_t killers_length, uint8_t *slots, size_t slots_length);
 
+/*
+ * The memory becomes a fresh board's, whatever value and buffers held; S, R and T are 0. The reply's value is to be kept. Checked: 1; where it is refused nothing
+ * changes.
+ */
+struct berth_command_reply berth_fresh_board(struct berth_value value, uint8_t *rows, size_t rows_length, uint8_t *killers, size_t killers_length,
+                                             uint8_t *slots, size_t slots_length);
+
+/*
+ * A file of commands, one after another, at most BERTH_FILE bytes. The memory becomes a fresh board's, whatever value and buffers held; then each command is run,
+ * and those that are refused change nothing, up to the file's end or the first that cannot be read (3, 4). The reply's value is to be kept. Checked before
+ * anything is changed: 1, 2.
+ */
+struct berth_replay_reply {
+    size_t ran;     /* commands that were run, also those that were refused */
+    uint8_t number; /* 1 or 2, and nothing was changed; else how the file ended: 0 where all of it was run, or 3 or 4 */
+    struct berth_value value;
+};
+
+struct berth_replay_reply berth_replay(struct berth_value value, const uint8_t *file, size_t file_length, uint8_t *rows, size_t rows_length,
+                                       uint8_t *killers, size_t killers_length, uint8_t *slots, size_t slots_length);
+
 /* The slots of a call. Checked: 1, 6, 18. */
 struct berth_slots_reply {
     uint32_t mask;  /* bit s is set exactly for an open slot s; 0 where refused */
@@ -239,11 +263,16 @@ struct berth_board {
 BERTH_CHECKED static inline int berth_board_clear(struct berth_board *board) {
     if (!berth_header_fits())
         return 0;
-    board->value = berth_fresh();
-    memset(board->rows, 255, BERTH_ROWS);
-    memset(board->killers, 255, BERTH_KILLERS);
-    memset(board->slots, 254, BERTH_SLOTS);
+    board->value = berth_fresh_board(berth_fresh(), board->rows, BERTH_ROWS, board->killers, BERTH_KILLERS, board->slots, BERTH_SLOTS).value;
     return 1;
+}
+
+/* Makes it a fresh board and runs a file of commands on it. */
+static inline struct berth_replay_reply berth_board_replay(struct berth_board *board, const uint8_t *bytes, size_t length) {
+    struct berth_replay_reply reply =
+        berth_replay(board->value, bytes, length, board->rows, BERTH_ROWS, board->killers, BERTH_KILLERS, board->slots, BERTH_SLOTS);
+    board->value = reply.value;
+    return reply;
 }
 
 static inline struct berth_command_reply berth_board_command(struct berth_board *board, const uint8_t *bytes, size_t length) {

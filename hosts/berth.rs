@@ -12,8 +12,11 @@ pub const ROWS: usize = 16384;
 pub const KILLERS: usize = 4096;
 pub const SLOTS: usize = 1024;
 
+/// The longest file of commands that is read.
+pub const FILE: usize = 32768;
+
 /// The version that this file is of; the library has its own.
-pub const VERSION: u32 = 1;
+pub const VERSION: u32 = 2;
 
 /// The calls and the heads of the rules in force.
 #[repr(C)]
@@ -139,6 +142,15 @@ pub struct Report {
     pub touched: usize,
 }
 
+/// What became of a file of commands.
+#[derive(Clone, Copy, Debug, PartialEq, Eq)]
+pub struct Replay {
+    /// commands that were run, also those that were refused
+    pub ran: usize,
+    /// why the file was not read to its end
+    pub end: Option<Refusal>,
+}
+
 /// The open slots of a call: a bit for each, and the number of ones.
 #[derive(Clone, Copy, Debug, PartialEq, Eq)]
 pub struct OpenSlots {
@@ -174,6 +186,13 @@ pub mod lent {
     }
 
     #[repr(C)]
+    struct ReplayReply {
+        ran: usize,
+        number: u8,
+        value: Value,
+    }
+
+    #[repr(C)]
     struct SlotsReply {
         mask: u32,
         ones: u32,
@@ -203,6 +222,8 @@ pub mod lent {
         fn berth_value_size() -> usize;
         fn berth_fresh() -> Value;
         fn berth_command(value: Value, bytes: Lent, b: usize, rows: LentMut, r: usize, killers: LentMut, k: usize, slots: LentMut, s: usize) -> CommandReply;
+        fn berth_fresh_board(value: Value, rows: LentMut, r: usize, killers: LentMut, k: usize, slots: LentMut, s: usize) -> CommandReply;
+        fn berth_replay(value: Value, file: Lent, f: usize, rows: LentMut, r: usize, killers: LentMut, k: usize, slots: LentMut, s: usize) -> ReplayReply;
         fn berth_open_slots(value: Value, rows: Lent, r: usize, killers: Lent, k: usize, slots: Lent, s: usize, call: u8) -> SlotsReply;
         fn berth_slot_state(value: Value, rows: Lent, r: usize, killers: Lent, k: usize, slots: Lent, s: usize, call: u8, slot: u8) -> ByteReply;
         fn berth_row_state(value: Value, rows: Lent, r: usize, killers: Lent, k: usize, slots: Lent, s: usize, rule: u8, row: u8) -> ByteReply;
@@ -265,6 +286,53 @@ pub mod lent {
         *value = reply.value;
         let report = Report { struck: reply.struck, reopened: reply.reopened, touched: reply.touched };
         answer(reply.number, report)
+    }
+
+    /// A fresh board, whatever the memory held. A refusal leaves the value and every byte as they were.
+    pub fn fresh_board(value: &mut Value, rows: &mut [u8], killers: &mut [u8], slots: &mut [u8]) -> Answer<()> {
+        // SAFETY: as in `command`.
+        let reply = unsafe {
+            berth_fresh_board(
+                *value,
+                rows.as_mut_ptr(),
+                rows.len(),
+                killers.as_mut_ptr(),
+                killers.len(),
+                slots.as_mut_ptr(),
+                slots.len(),
+            )
+        };
+        *value = reply.value;
+        answer(reply.number, ())
+    }
+
+    /// A fresh board, and the commands of a file run on it, up to the first that cannot be read. Refused for its lengths, the value and every byte are as they were.
+    pub fn replay(
+        value: &mut Value,
+        file: &[u8],
+        rows: &mut [u8],
+        killers: &mut [u8],
+        slots: &mut [u8],
+    ) -> Answer<Replay> {
+        // SAFETY: as in `command`.
+        let reply = unsafe {
+            berth_replay(
+                *value,
+                file.as_ptr(),
+                file.len(),
+                rows.as_mut_ptr(),
+                rows.len(),
+                killers.as_mut_ptr(),
+                killers.len(),
+                slots.as_mut_ptr(),
+                slots.len(),
+            )
+        };
+        *value = reply.value;
+        match answer(reply.number, ()).err() {
+            Some(refusal @ (Refusal::BufferLength | Refusal::FileLength)) => Err(refusal),
+            end => Ok(Replay { ran: reply.ran, end }),
+        }
     }
 
     /// What the questions are asked of.
@@ -375,6 +443,11 @@ impl Board {
     /// A command by its bytes.
     pub fn command(&mut self, bytes: &[u8]) -> Answer<Report> {
         lent::command(&mut self.value, bytes, &mut self.rows, &mut self.killers, &mut self.slots)
+    }
+
+    /// Becomes a fresh board and runs a file of commands, up to the first that cannot be read. A file of over 32,768 bytes is refused, and changes nothing.
+    pub fn replay(&mut self, file: &[u8]) -> Answer<Replay> {
+        lent::replay(&mut self.value, file, &mut self.rows, &mut self.killers, &mut self.slots)
     }
 
     /// Kind 1: a new board with these slot counts, of at most 32 calls; rules and draft are gone.

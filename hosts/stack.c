@@ -1,5 +1,6 @@
 /* Measures the stack that the library's functions need, which no contract speaks of: a thread paints its stack, sends a command or asks the questions, and
-   looks how deep the paint is gone. The board is the largest, and its commands strike, reopen and refuse. Fails where it is more than the header says. */
+   looks how deep the paint is gone. The board is the largest, and its commands strike, reopen and refuse; in the end they are replayed as a file. Fails where it is
+   more than the header says. */
 #define _XOPEN_SOURCE 700
 #include "berth.h"
 #include <pthread.h>
@@ -11,6 +12,9 @@ static uint8_t area[AREA] __attribute__((aligned(4096)));
 static struct berth_board board;
 static size_t deepest;
 static unsigned long commands;
+static uint8_t file[BERTH_FILE];
+static size_t file_length;
+static int replayed;
 
 /* Paints all of the thread's stack that lies below this function's own frame. */
 static __attribute__((noinline)) void paint(void) {
@@ -32,6 +36,17 @@ static void command(struct berth_command_bytes made) {
     berth_board_obey(&board, made);
     look(place);
     commands++;
+    memcpy(file + file_length, made.bytes, made.length);
+    file_length += made.length;
+}
+
+static void replay(void) {
+    const uint8_t *place = __builtin_frame_address(0);
+    paint();
+    int cleared = berth_board_clear(&board);
+    struct berth_replay_reply reply = berth_board_replay(&board, file, file_length);
+    look(place);
+    replayed = cleared && reply.ran == commands;
 }
 
 static void questions(uint8_t number) {
@@ -74,6 +89,7 @@ static void *session(void *nothing) {
         command(berth_make_lift((uint8_t)number));
     questions(0);
     command(berth_make_board(counts, 33));
+    replay();
     return nothing;
 }
 
@@ -85,5 +101,5 @@ int main(void) {
     if (!berth_board_clear(&board) || pthread_create(&thread, &attributes, session, NULL) != 0 || pthread_join(thread, NULL) != 0)
         return 1;
     printf("stack: %zu bytes at most over %lu commands; the header says %d\n", deepest, commands, BERTH_STACK);
-    return deepest > BERTH_STACK;
+    return deepest > BERTH_STACK || !replayed;
 }

@@ -103,6 +103,36 @@ static void refuse(struct berth_board *board) {
     same("put without a draft", berth_board_put(board).number, BERTH_NO_DRAFT);
 }
 
+/* A file leaves what its commands leave one by one, up to one that cannot be read; one that is too long changes nothing. */
+static void replay(struct berth_board *board) {
+    static const uint8_t lift_without_board[] = {5, 9, 4, 6};
+    static uint8_t file[BERTH_FILE + 1];
+    static struct berth_board other;
+    struct berth_command_bytes made[] = {
+        berth_make_lift(9), berth_make_board((const uint8_t[]){2, 2}, 2), berth_make_head(0, (const uint8_t[]){0}, 1), berth_make_row((const uint8_t[]){1}, 1),
+        berth_make_put(),
+    };
+    size_t length = 0;
+    same("clear", berth_board_clear(&other), 1);
+    for (size_t i = 0; i < sizeof made / sizeof *made; i++) {
+        memcpy(file + length, made[i].bytes, made[i].length);
+        length += made[i].length;
+        berth_board_obey(&other, made[i]);
+    }
+    struct berth_replay_reply reply = berth_board_replay(board, file, length);
+    same("commands run", (long)reply.ran, 5);
+    same("end of the file", reply.number, 0);
+    same("board after the file", memcmp(board, &other, sizeof other), 0);
+    same("file that is too long", berth_board_replay(board, file, sizeof file).number, BERTH_FILE_LENGTH);
+    same("board after it", memcmp(board, &other, sizeof other), 0);
+    reply = berth_board_replay(board, lift_without_board, 4);
+    same("commands before an unknown kind", (long)reply.ran, 2);
+    same("unknown kind", reply.number, BERTH_UNKNOWN_KIND);
+    same("clear", berth_board_clear(&other), 1);
+    same("board after refusals alone", memcmp(board, &other, sizeof other), 0);
+    same("short rows", berth_fresh_board(board->value, board->rows, 1, board->killers, BERTH_KILLERS, board->slots, BERTH_SLOTS).number, BERTH_BUFFER_LENGTH);
+}
+
 /* The sizes that the header says, and the library's own. */
 static void measure(void) {
     same("version", (long)berth_version(), BERTH_VERSION);
@@ -110,6 +140,7 @@ static void measure(void) {
     same("header fits", berth_header_fits(), 1);
     same("a board's size", (long)sizeof(struct berth_board), 22183);
     same("size of a command's reply", (long)sizeof(struct berth_command_reply), 704);
+    same("size of a replay's reply", (long)sizeof(struct berth_replay_reply), 688);
 }
 
 /* Every number with its text; berth.rs has to say the same. */
@@ -130,6 +161,7 @@ int main(int words, char **word) {
     make_board(&board);
     ask(&board);
     refuse(&board);
+    replay(&board);
     printf("header: %s\n", failed ? "FAILED" : "every function answers from C as it should");
     return failed;
 }

@@ -2,7 +2,7 @@
 //! top. With the word `texts` it prints the refusals and their texts; berth.h has to say the same.
 mod berth;
 
-use berth::{lent, Board, Refusal, Row, Slot};
+use berth::{lent, Board, Refusal, Replay, Row, Slot};
 
 /// Two calls of two slots. Rule 0 joins equal slots, and rule 5 leaves slot 0 of call 0.
 fn board() -> Board {
@@ -52,6 +52,27 @@ fn refuse(board: &mut Board) {
     assert_eq!((answer, value), (Err(Refusal::BufferLength), before));
 }
 
+/// A file leaves what its commands leave one by one, up to one that cannot be read; one that is too long changes nothing.
+fn replay(board: &mut Board) {
+    let commands: [&[u8]; 5] = [&[5, 9], &[&[1, 2, 2][..], &[0; 30]].concat(), &[2, 0, 1, 0, 255, 255, 255], &[3, 1, 255, 255, 255], &[4]];
+    let mut other = Board::new();
+    for bytes in commands {
+        let _ = other.command(bytes);
+    }
+    let file = commands.concat();
+    assert_eq!(board.replay(&file), Ok(Replay { ran: 5, end: None }));
+    let same = |a: &Board, b: &Board| a.memory().value == b.memory().value && a.memory().slots == b.memory().slots;
+    assert!(same(board, &other));
+    assert_eq!(board.replay(&[4; berth::FILE + 1]), Err(Refusal::FileLength));
+    assert!(same(board, &other));
+    assert_eq!(board.replay(&[&file[..], &[5]].concat()), Ok(Replay { ran: 5, end: Some(Refusal::BodyLength) }));
+    assert!(same(board, &other));
+    let mut value = *board.memory().value;
+    assert_eq!(lent::replay(&mut value, &file, &mut [], &mut [], &mut []), Err(Refusal::BufferLength));
+    assert_eq!(lent::fresh_board(&mut value, &mut [], &mut [], &mut []), Err(Refusal::BufferLength));
+    assert!(value == *board.memory().value);
+}
+
 fn name() {
     for number in 0..=255 {
         let refusal = Refusal::from_number(number);
@@ -71,6 +92,7 @@ fn main() {
     let mut board = board();
     ask(&board);
     refuse(&mut board);
+    replay(&mut board);
     name();
     println!("wrapper: every function answers from Rust as it should");
 }

@@ -52,7 +52,7 @@ fn some_buffer(random: &mut Random, right: usize) -> Fenced {
 }
 
 /// Any contents, or what a list left, with some bytes altered.
-fn some_host(random: &mut Random, left: &[Host]) -> Host {
+pub fn some_host(random: &mut Random, left: &[Host]) -> Host {
     let mut host = random.choose(left).clone();
     if random.percent(50) {
         fill_value(random, &mut host.value);

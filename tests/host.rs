@@ -1,7 +1,7 @@
 //! A host's value and lent buffers, each between bytes that nobody may write. What the library promises of any contents is asserted of every command.
 
 use crate::berth::lent::{self, Memory};
-use crate::berth::{Answer, Draft, Heads, Refusal, Report, Value};
+use crate::berth::{Answer, Draft, Heads, Refusal, Replay, Report, Value};
 use crate::ledger::{Ledger, Lengths, LENGTHS};
 
 const FENCE: usize = 1024;
@@ -102,6 +102,26 @@ impl Host {
         assert!(given == Fenced::new(bytes), "{bytes:?} is written to");
         assert!(answer.is_ok() || *self == before, "{bytes:?} is refused, and changes something");
         (answer, before)
+    }
+
+    /// What became of a file of commands. Nothing outside the buffers changes, nor does the file.
+    pub fn replay(&mut self, file: &[u8]) -> Answer<Replay> {
+        let given = Fenced::new(file);
+        let [rows, killers, slots] = &mut self.buffers;
+        let (rows, killers, slots) = (rows.inside_mut(), killers.inside_mut(), slots.inside_mut());
+        let answer = lent::replay(&mut self.value, given.inside(), rows, killers, slots);
+        assert!(self.buffers.iter().all(Fenced::stands), "a file of {} bytes writes outside the buffers", file.len());
+        assert!(given == Fenced::new(file), "a file of {} bytes is written to", file.len());
+        answer
+    }
+
+    /// Nothing outside the buffers changes.
+    pub fn fresh_board(&mut self) -> Answer<()> {
+        let [rows, killers, slots] = &mut self.buffers;
+        let (rows, killers, slots) = (rows.inside_mut(), killers.inside_mut(), slots.inside_mut());
+        let answer = lent::fresh_board(&mut self.value, rows, killers, slots);
+        assert!(self.buffers.iter().all(Fenced::stands), "a fresh board writes outside the buffers");
+        answer
     }
 
     pub fn memory(&self) -> Memory<'_> {

@@ -17,6 +17,7 @@ mod place;
 mod questions;
 mod random;
 mod records;
+mod replay;
 mod samples;
 mod session;
 mod sheet;
@@ -38,6 +39,7 @@ fn main() {
     if matches!(&word[..], "" | "lists" | "broken") {
         let left = lists::run(&mut tally);
         altered::run(&left);
+        replay::run(&left);
     }
     if matches!(&word[..], "" | "sheets") {
         sheet::run(&mut tally);

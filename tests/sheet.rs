@@ -109,7 +109,7 @@ fn some_commands(seed: u64) -> Vec<Vec<u8>> {
 }
 
 /// A file of commands, as it is or damaged: empty, cut, with other bytes, with an unknown kind or any command between two, or made long.
-fn some_file(seed: u64) -> Vec<u8> {
+pub fn some_file(seed: u64) -> Vec<u8> {
     let random = &mut Random(seed);
     let mut commands = some_commands(seed);
     let between = random.below(commands.len() + 1);

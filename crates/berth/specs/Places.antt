@@ -2,8 +2,9 @@
 use Prim.Native.Nat.{ℕ, zero, suc, _+_, _*_}
 use lib.ListN.{length}
 use Rattle.berth.specs.declared.reply.PlaceReply.{PlaceReply}
+use Rattle.layout.specs.Places.{rowStart}
 
 -- so many bytes from the row's place on
 abbrev pub rowPlaceReply : ℕ → ℕ → ℕ → PlaceReply
 rowPlaceReply zero p w = record { place = 0; length = 0 }
-rowPlaceReply (suc n) p w = record { place = 256 * p + 4 * w; length = suc n }
+rowPlaceReply (suc n) p w = record { place = rowStart p w; length = suc n }

@@ -17,7 +17,9 @@ use Rattle.model.specs.declared.answer.RowState.{RowState}
 use Rattle.model.specs.declared.answer.RowState.the-variants as row
 use Rattle.model.specs.declared.answer.Support.{Support}
 use Rattle.model.specs.declared.answer.Support.the-variants as support
+use Rattle.board.specs.declared.file.Replayed.{Replayed}
 use Rattle.berth.specs.declared.reply.CommandReply.{CommandReply}
+use Rattle.berth.specs.declared.reply.ReplayReply.{ReplayReply}
 use Rattle.berth.specs.declared.reply.SlotsReply.{SlotsReply}
 use Rattle.berth.specs.declared.reply.StateReply.{StateReply}
 use Rattle.berth.specs.declared.reply.RowReply.{RowReply}
@@ -25,8 +27,11 @@ use Rattle.berth.specs.declared.reply.PlaceReply.{PlaceReply}
 use Rattle.berth.specs.declared.reply.SupportReply.{SupportReply}
 use Rattle.model.specs.Promise.{Promise}
 use Rattle.model.specs.Questions.{rowChecks, RowBytesPromise}
+use Rattle.board.specs.Fresh.{FreshPromise}
+use Rattle.board.specs.Replay.{ReplayPromise}
 use Rattle.layout.specs.Memory.{State, memory}
 use Rattle.model.specs.Refusals.{firstOf}
+use Rattle.layout.specs.Places.{rowStart}
 
 -- a reply hands on an answer that keeps its promise, and nothing else
 pub record Replied {A B : Type 0} (Promised : A → Type 0) (replyTo : A → B) (reply : B) : Type 0 where
@@ -38,6 +43,13 @@ pub record Replied {A B : Type 0} (Promised : A → Type 0) (replyTo : A → B) 
 abbrev pub CommandPromise : State → List ℕ → RefT (List ℕ) → RefT (List ℕ) → RefT (List ℕ) → Outcome → Type 0
 CommandPromise before bytes rows killers slots o = Promise before bytes (o .answer) (memory (o .value) rows killers slots)
 
+-- and so do a fresh board and a file that is replayed
+abbrev pub LentFreshPromise : State → RefT (List ℕ) → RefT (List ℕ) → RefT (List ℕ) → Outcome → Type 0
+LentFreshPromise before rows killers slots o = FreshPromise before (o .answer) (memory (o .value) rows killers slots)
+
+abbrev pub LentReplayPromise : State → List ℕ → RefT (List ℕ) → RefT (List ℕ) → RefT (List ℕ) → Replayed → Type 0
+LentReplayPromise before file rows killers slots r = ReplayPromise before file (r .number) (r .ran) (memory (r .value) rows killers slots)
+
 -- S, R, T and the value that is left
 abbrev pub commandReplyBy : Answer → Value → CommandReply
 commandReplyBy (answer.Accepted r) value = record { struck = r .struck; reopened = r .reopened; touched = r .touched; number = 0; value = value }
@@ -45,6 +57,10 @@ commandReplyBy (answer.Refused n) value = record { struck = 0; reopened = 0; tou
 
 abbrev pub commandReply : Outcome → CommandReply
 commandReply o = commandReplyBy (o .answer) (o .value)
+
+-- how many commands were run, how the file ended, and the value that is left
+abbrev pub replayReply : Replayed → ReplayReply
+replayReply r = record { ran = r .ran; number = r .number; value = r .value }
 
 -- the mask of a call's open slots, and its ones
 abbrev pub slotsReply : OpenSlots → SlotsReply
@@ -71,7 +87,7 @@ supportReply (support.Refused n) = record { number = n; row = 254 }
 
 -- where a row's four bytes stand in the lent row buffer, by the number of the row's refusal; no byte of it where there is one
 abbrev pub placeReply : ℕ → ℕ → ℕ → PlaceReply
-placeReply zero p w = record { place = 256 * p + 4 * w; length = 4 }
+placeReply zero p w = record { place = rowStart p w; length = 4 }
 placeReply (suc n) p w = record { place = 0; length = 0 }
 
 -- the part of the buffer that a reply names is inside it, and is the part that the question hands back

@@ -1,4 +1,4 @@
-// The board for hosts in C and Rust: the command entry and the five questions under their C names. The value beside the buffers is a plain C struct that
+// The board for hosts in C and Rust: the entries and the five questions under their C names. The value beside the buffers is a plain C struct that
 // goes in and comes back by value; hosts/berth.h says the same for C, and two numbers tell a host whether its header is this library's.
 // Proved: each reply hands on an answer that keeps its promise of the model's specs, on any value and any buffers. Assumed: nothing here; of a host, that a
 // lent pointer reaches as far as its length says, and that no two lent buffers overlap.
@@ -6,6 +6,7 @@ pub mod reply; // the answers as C structs
 
 use crate::reply::CommandReply;
 use crate::reply::PlaceReply;
+use crate::reply::ReplayReply;
 use crate::reply::RowReply;
 use crate::reply::SlotsReply;
 use crate::reply::StateReply;
@@ -13,13 +14,13 @@ use crate::reply::SupportReply;
 use layout::value::Value;
 ghost use mathlib.Core.Path.{_≡_};
 ghost use Rattle.model.specs.Questions.{SlotsPromise, StatePromise, RowPromise, SupportPromise};
-ghost use Rattle.berth.specs.Replies.{Replied, CommandPromise, commandReply, PlaceReplied, slotsReply, stateReply, rowReply, supportReply};
+ghost use Rattle.berth.specs.Replies.{Replied, CommandPromise, LentFreshPromise, LentReplayPromise, commandReply, replayReply, PlaceReplied, slotsReply, stateReply, rowReply, supportReply};
 ghost use Rattle.layout.specs.Value.{freshValue};
 ghost use Rattle.layout.specs.Memory.{memory};
 ghost use Rattle.berth.specs.Version.{interfaceVersion, valueSize};
 
 // A host compares these two with what its header says. They take and return plain numbers, so that a host of any version can ask.
-const VERSION: u32 = 1;
+const VERSION: u32 = 2;
 
 // The bytes of `Value`: 416 of the heads and 263 of the draft.
 const VALUE_SIZE: usize = 679;
@@ -61,6 +62,38 @@ pub extern "C" fn berth_command(
         commandReply r ⌝ }
 {
     reply::of_outcome(board::command(value, bytes, rows, killers, slots))
+}
+
+// The memory becomes a fresh board's, whatever it held. The host keeps the reply's value.
+#[no_mangle]
+pub extern "C" fn berth_fresh_board(
+    value: Value,
+    rows: &mut [u8],
+    killers: &mut [u8],
+    slots: &mut [u8],
+) -> CommandReply
+    ensures { λ r. ⌜ Replied
+        (LentFreshPromise (memory value (rows .entry) (killers .entry) (slots .entry)) (rows .exit) (killers .exit) (slots .exit))
+        commandReply r ⌝ }
+{
+    reply::of_outcome(board::fresh_board(value, rows, killers, slots))
+}
+
+// The memory becomes a fresh board's, and the commands of a file are run on it. The host keeps the reply's value.
+#[no_mangle]
+pub extern "C" fn berth_replay(
+    value: Value,
+    file: &[u8],
+    rows: &mut [u8],
+    killers: &mut [u8],
+    slots: &mut [u8],
+) -> ReplayReply
+    ensures { λ r. ⌜ Replied
+        (LentReplayPromise (memory value (rows .entry) (killers .entry) (slots .entry)) (now (file .entry))
+        (rows .exit) (killers .exit) (slots .exit))
+        replayReply r ⌝ }
+{
+    reply::of_replayed(board::replay(value, file, rows, killers, slots))
 }
 
 // The mask of a call's open slots, with the number of its ones.

@@ -1,4 +1,5 @@
 // The answers as C structs: a number, 0 where there is an answer, and the answer's values.
+use board::Replayed;
 use layout::value::Value;
 use model::answer::Answer;
 use model::answer::OpenSlots;
@@ -7,7 +8,7 @@ use model::answer::RowState;
 use model::answer::SlotState;
 use model::answer::Support;
 ghost use mathlib.Core.Path.{_≡_};
-ghost use Rattle.berth.specs.Replies.{commandReply, slotsReply, stateReply, rowReply, supportReply};
+ghost use Rattle.berth.specs.Replies.{commandReply, replayReply, slotsReply, stateReply, rowReply, supportReply};
 ghost use Rattle.berth.specs.Places.{rowPlaceReply};
 
 // What a command changed: S, R and T (SCOPE 3.7), which are 0 where refused; and the value that it leaves beside the buffers.
@@ -18,6 +19,14 @@ pub struct CommandReply {
     // slots struck before and open after
     pub reopened: usize,
     pub touched: usize,
+    pub number: u8,
+    pub value: Value,
+}
+
+// How many commands of a file were run, and how it ended; and the value that is left beside the buffers.
+#[repr(C)]
+pub struct ReplayReply {
+    pub ran: usize,
     pub number: u8,
     pub value: Value,
 }
@@ -78,6 +87,17 @@ pub fn of_outcome(outcome: Outcome) -> CommandReply
             number,
             value,
         },
+    }
+}
+
+pub fn of_replayed(replayed: Replayed) -> ReplayReply
+    ensures { λ r. ⌜ r ≡ replayReply replayed ⌝ }
+{
+    let value = replayed.value;
+    ReplayReply {
+        ran: replayed.ran,
+        number: replayed.number,
+        value,
     }
 }
 

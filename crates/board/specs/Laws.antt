@@ -1,2 +1,5 @@
 -- The theorems over the definitions.
 pub mod Demands
+pub mod Lists
+pub mod Fresh
+pub mod Replay

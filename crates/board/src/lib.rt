@@ -1,8 +1,22 @@
-// THE ENTRIES: any bytes as a command, on any value and any buffers; and the five questions, which the crate questions has.
-// Proved: what the command entry answers and leaves is what specs/Promise.antt of the crate model says; from that alone specs/Lists.antt has demand 3. Assumed: nothing.
-use layout::value::Value;
+// THE ENTRIES: any bytes as a command, on any value and any buffers; a fresh board in any memory, and a file of commands replayed on it; and the five questions,
+// which the crate questions has. The types that they take and answer with are handed on too.
+// Proved: what the command entry answers and leaves is what specs/Promise.antt of the crate model says, and what a file leaves stands after a list of such commands,
+// of which specs/Laws/Demands.antt has demand 3. Assumed: nothing.
+mod fresh; // a fresh board
+mod file; // a file of commands
+
+pub use crate::file::Replayed;
+pub use crate::file::replay;
+pub use crate::fresh::fresh_board;
+pub use layout::value::Value;
 use layout::value::bad_lengths;
-use model::answer::Outcome;
+pub use model::answer::Answer;
+pub use model::answer::OpenSlots;
+pub use model::answer::Outcome;
+pub use model::answer::Report;
+pub use model::answer::RowState;
+pub use model::answer::SlotState;
+pub use model::answer::Support;
 use model::command::Decoded;
 use model::command::Read;
 use model::refusal::BODY_LENGTH;
@@ -30,9 +44,9 @@ fn obey_read(
 ) -> Outcome
     requires { ⌜ Sizes (now rows) (now killers) (now slots) ⌝ }
     requires { ⌜ decoded ≡ readAt (now bytes) 0 ⌝ }
-    ensures { λ r. ⌜ Promise
+    ensures { λ o. ⌜ Promise
         (memory value (rows .entry) (killers .entry) (slots .entry)) (now (bytes .entry))
-        (r .answer) (memory (r .value) (rows .exit) (killers .exit) (slots .exit)) ⌝ }
+        (o .answer) (memory (o .value) (rows .exit) (killers .exit) (slots .exit)) ⌝ }
 {
     let read = decoded.read;
     let counts = decoded.counts;

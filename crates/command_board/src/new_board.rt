@@ -39,7 +39,7 @@ fn bad_counts(counts: &[u8; 32]) -> bool
 }
 
 // Writes v to every byte.
-fn fill(buffer: &mut [u8], v: u8)
+pub fn fill(buffer: &mut [u8], v: u8)
     ensures { λ _. ⌜ Filled (length (now (buffer .entry))) v (now (buffer .exit)) ⌝ }
 {
     let mut i = 0;

@@ -1,9 +1,10 @@
 -- THE DRAFTS that kinds 2 and 3 leave.
-use mathlib.Core.Bool.{cond}
+use mathlib.Core.Path.{_≡_}
+use mathlib.Core.Bool.{Bool, cond}
 use mathlib.Core.List.{List}
 use Prim.Native.Nat.{ℕ, _+_, _*_}
 use lib.ListN.{set}
-use lib.Dec.{leb}
+use lib.Dec.{eqb, leb}
 use Rattle.layout.specs.declared.value.RuleData.{RuleData}
 use Rattle.layout.specs.declared.value.Draft.{Draft}
 use Rattle.layout.specs.declared.value.Value.{Value}
@@ -13,7 +14,9 @@ use Rattle.model.specs.declared.command.Row.{Row}
 use Rattle.model.specs.declared.command.Command.{Command}
 use Rattle.model.specs.declared.command.Command.the-variants as kind
 use Rattle.model.specs.Commands.{scopeOf}
+use Rattle.model.specs.Refusals.{firstOf}
 use Rattle.model.specs.Promise.{KindPromise}
+use Rattle.command_draft.specs.declared.redraft.Redrafted.{Redrafted}
 use Rattle.layout.specs.Value.{emptyRule}
 use Rattle.layout.specs.Memory.{stateOf}
 
@@ -21,6 +24,11 @@ use Rattle.layout.specs.Memory.{stateOf}
 abbrev pub DraftPromise : Value → Command → Outcome → Type 0
 DraftPromise value c r =
     (rows killers slots ns : List ℕ) → KindPromise (stateOf value rows killers slots) c ns (r .answer) (stateOf (r .value) rows killers slots)
+
+-- WHAT IS GIVEN BACK OF A DRAFT: the number of the first refusal that holds, or 0; and the new draft, or the old one where one holds
+pub record Redraws (checks : List (Bool × ℕ)) (old new : Draft) (r : Redrafted) : Type 0 where
+  pub number : r .number ≡ firstOf checks
+  pub draft : r .draft ≡ cond (eqb (r .number) 0) new old
 
 -- a head without rows
 abbrev pub draftOf : Head → Draft

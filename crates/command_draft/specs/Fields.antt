@@ -13,6 +13,7 @@ use Rattle.model.specs.Commands.{scopeOf, slotsOf}
 use Rattle.model.specs.Ledger.{badSpare?, badNumber?}
 use Rattle.model.specs.Representation.{noCalls?}
 use Rattle.model.specs.Numbers as refused
+use Rattle.layout.specs.Places.{ownPlace}
 
 -- 8: a rule cannot have so many columns
 abbrev pub badArity? : ℕ → Bool
@@ -59,7 +60,7 @@ slotOffCall? counts scope slots n = some? n (slotOff? counts scope slots)
 
 -- 15: one of the first m rows has these slots in the first n columns
 abbrev pub sameRow? : List ℕ → List ℕ → ℕ → ℕ → Bool
-sameRow? rows slots n v = every? n λ k. eqb (getD rows (4 * v + k) 0) (getD slots k 255)
+sameRow? rows slots n v = every? n λ k. eqb (getD rows (ownPlace v k) 0) (getD slots k 255)
 
 abbrev pub rowInDraft? : List ℕ → List ℕ → ℕ → ℕ → Bool
 rowInDraft? rows slots n m = some? m (sameRow? rows slots n)

@@ -1,5 +1,6 @@
 // Kind 2: starts a draft, in the place of any other.
 use crate::fields;
+use crate::redraft::Redrafted;
 use layout::places::cap;
 use layout::value::Draft;
 use layout::value::RuleData;
@@ -15,7 +16,7 @@ use model::refusal::SPARE_FIELD;
 use model::refusal::or_refuse;
 ghost use mathlib.Core.Path.{_≡_};
 ghost use Rattle.command_draft.specs.Fields.{headChecks};
-ghost use Rattle.command_draft.specs.Drafts.{draftOf, StartsDraft};
+ghost use Rattle.command_draft.specs.Drafts.{draftOf, Redraws, StartsDraft};
 ghost use Rattle.model.specs.Refusals.{firstOf};
 
 // The number of the refusal, or 0 for none, in the order of SCOPE 4.3. Every check is made, so the columns are capped.
@@ -48,14 +49,27 @@ fn draft_of(head: Head) -> Draft
     }
 }
 
+// The draft of the head in the place of the one given, which stays where the head is refused.
+pub fn redraft(counts: &[u8; 32], draft: Draft, head: Head) -> Redrafted
+    ensures { λ r. ⌜ Redraws (headChecks (now (counts .entry)) head) draft (draftOf head) r ⌝ }
+{
+    let number = check_head(counts, head);
+    if number != 0 {
+        return Redrafted { number, draft };
+    }
+    let draft = draft_of(head);
+    Redrafted { number, draft }
+}
+
 pub fn start_draft(value: Value, head: Head) -> Outcome
     ensures { λ r. ⌜ StartsDraft value head r ⌝ }
 {
     let heads = value.heads;
     let counts = heads.counts;
-    let n = check_head(&counts, head);
-    if n != 0 {
-        return Outcome::refused(n, value);
+    let draft = value.draft;
+    let next = redraft(&counts, draft, head);
+    if next.number != 0 {
+        return Outcome::refused(next.number, value);
     }
-    Outcome::accepted(0, 0, 0, value.with_draft(draft_of(head)))
+    Outcome::accepted(0, 0, 0, value.with_draft(next.draft))
 }

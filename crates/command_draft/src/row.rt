@@ -1,5 +1,6 @@
 // Kind 3: adds a row to the draft.
 use crate::fields;
+use crate::redraft::Redrafted;
 use layout::places::cap;
 use layout::value::Draft;
 use layout::value::RuleData;
@@ -15,7 +16,7 @@ use model::refusal::SPARE_FIELD;
 use model::refusal::or_refuse;
 ghost use mathlib.Core.Path.{_≡_};
 ghost use Rattle.command_draft.specs.Fields.{addRowChecks};
-ghost use Rattle.command_draft.specs.Drafts.{withRow, AddsRow};
+ghost use Rattle.command_draft.specs.Drafts.{Redraws, withRow, AddsRow};
 ghost use Rattle.model.specs.Refusals.{firstOf};
 
 // The number of the refusal, or 0 for none, in the order of SCOPE 4.3. Every check is made, so columns and rows are capped.
@@ -73,15 +74,27 @@ fn pushed(draft: Draft, row: Row) -> Draft
     copy
 }
 
+// The draft with the row, or as it is where the row is refused.
+pub fn redraft(counts: &[u8; 32], draft: Draft, row: Row) -> Redrafted
+    ensures { λ r. ⌜ Redraws (addRowChecks (now (counts .entry)) (draft .rule) row) draft (withRow draft row) r ⌝ }
+{
+    let number = check_row(counts, draft.rule, row);
+    if number != 0 {
+        return Redrafted { number, draft };
+    }
+    let draft = pushed(draft, row);
+    Redrafted { number, draft }
+}
+
 pub fn add_row(value: Value, row: Row) -> Outcome
     ensures { λ r. ⌜ AddsRow value row r ⌝ }
 {
     let heads = value.heads;
     let counts = heads.counts;
     let draft = value.draft;
-    let n = check_row(&counts, draft.rule, row);
-    if n != 0 {
-        return Outcome::refused(n, value);
+    let next = redraft(&counts, draft, row);
+    if next.number != 0 {
+        return Outcome::refused(next.number, value);
     }
-    Outcome::accepted(0, 0, 0, value.with_draft(pushed(draft, row)))
+    Outcome::accepted(0, 0, 0, value.with_draft(next.draft))
 }

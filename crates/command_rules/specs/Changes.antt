@@ -2,6 +2,7 @@
 use mathlib.Core.Path.{_≡_}
 use mathlib.Core.List.{List}
 use Prim.Native.Nat.{ℕ, _%_}
+use Rattle.layout.specs.declared.value.Draft.{Draft}
 use Rattle.model.specs.declared.answer.Report.{Report}
 use Rattle.model.specs.declared.answer.Answer.{Answer}
 use Rattle.model.specs.declared.answer.Answer.the-variants as answer
@@ -11,7 +12,6 @@ use Rattle.filter_propagate.specs.Rules.{RuleBytes}
 use Rattle.filter_meaning.specs.Rules.{bytesIn}
 use Rattle.filter_post.specs.Post.{PostDone}
 use Rattle.filter_retract.specs.Done.{RetractDone}
-use Rattle.layout.specs.Value.{emptyDraft}
 use Rattle.layout.specs.Memory.{State}
 
 -- the rules' bytes of a state
@@ -22,13 +22,12 @@ stateRules s = bytesIn (s .value .heads) (s .rows)
 abbrev pub postReport : ℕ → Report
 postReport struck = record { struck = struck; reopened = 0; touched = struck }
 
--- THE DRAFT IS POSTED under its number, and then there is no draft
-pub record Posted (before : State) (given : Answer) (after : State) : Type 0 where
+-- A DRAFT IS POSTED under its number, and the value's own draft is as it was
+pub record Posted (posted : Draft) (before : State) (given : Answer) (after : State) : Type 0 where
   pub struck : ℕ
-  pub done : PostDone (before .value .draft .number % 64) struck (before .value .draft .rule) (stateRules before) (stateRules after) (before .killers) (after .killers)
-      (before .slots) (after .slots)
+  pub done : PostDone (posted .number % 64) struck (posted .rule) (stateRules before) (stateRules after) (before .killers) (after .killers) (before .slots) (after .slots)
   pub counts : after .value .heads .counts ≡ before .value .heads .counts
-  pub draft : after .value .draft ≡ emptyDraft
+  pub draft : after .value .draft ≡ before .value .draft
   pub answer-is : given ≡ answer.Accepted (postReport struck)
 
 -- a retraction strikes nothing that was open (SCOPE 3.10)

@@ -27,16 +27,17 @@ pub fn check_post(counts: &[u8; 32], arity: &[u8; 64], number: u8, columns: u8) 
     or_refuse(n, taken != 0, IN_FORCE)
 }
 
-// The draft comes into force under its number, whatever stood there.
+// A draft comes into force under its number, whatever stood there. The value's own draft stays.
 pub fn post_unchecked(
     value: Value,
+    draft: Draft,
     rows: &mut [u8],
     killers: &mut [u8],
     slots: &mut [u8],
 ) -> Outcome
     requires { ⌜ Sizes (now rows) (now killers) (now slots) ⌝ }
     ensures { λ r. ⌜ Posted
-        (memory value (rows .entry) (killers .entry) (slots .entry)) (r .answer)
+        draft (memory value (rows .entry) (killers .entry) (slots .entry)) (r .answer)
         (memory (r .value) (rows .exit) (killers .exit) (slots .exit)) ⌝ }
 {
     let heads = value.heads;
@@ -44,7 +45,6 @@ pub fn post_unchecked(
     let mut arity = heads.arity;
     let mut scope = heads.scope;
     let mut lengths = heads.lengths;
-    let draft = value.draft;
     let rule = draft.rule;
     let p = layout::places::rule_index(draft.number);
     let struck = filter_post::post(
@@ -57,14 +57,13 @@ pub fn post_unchecked(
         p,
         rule,
     );
-    let none = Draft::empty();
     let heads = Heads {
         counts,
         arity,
         scope,
         lengths,
     };
-    Outcome::accepted(struck, 0, struck, value.with_heads(heads).with_draft(none))
+    Outcome::accepted(struck, 0, struck, value.with_heads(heads))
 }
 
 // The whole of kind 4: refused, and nothing is changed; or the draft is in force, and there is none left.
@@ -83,5 +82,9 @@ pub fn post(value: Value, rows: &mut [u8], killers: &mut [u8], slots: &mut [u8])
     if n != 0 {
         return Outcome::refused(n, value);
     }
-    post_unchecked(value, rows, killers, slots)
+    let done = post_unchecked(value, draft, rows, killers, slots);
+    let answer = done.answer;
+    let none = Draft::empty();
+    let value = done.value.with_draft(none);
+    Outcome { answer, value }
 }

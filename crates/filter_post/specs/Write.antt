@@ -7,6 +7,7 @@ use lib.ListN.{length, getD}
 use Rattle.layout.specs.declared.value.RuleData.{RuleData}
 use Rattle.filter_propagate.specs.Rules.{RuleBytes}
 use Rattle.layout.specs.Sizes.{rowsLength}
+use Rattle.layout.specs.Places.{ownPlace, rowPlace, scopePlace}
 
 -- entry i becomes that of the list from
 abbrev pub Copied : List ℕ → ℕ → ℕ → ℕ → Type 0
@@ -24,15 +25,15 @@ pub record Writable (p : ℕ) (R : RuleBytes) : Type 0 where
 pub record SameRule (R R′ : RuleBytes) (q : ℕ) : Type 0 where
   pub arity : getD (R′ .arity) q 0 ≡ getD (R .arity) q 0
   pub lengths : getD (R′ .lengths) q 0 ≡ getD (R .lengths) q 0
-  pub scope : (k : ℕ) → k < 4 → getD (R′ .scope) (4 * q + k) 0 ≡ getD (R .scope) (4 * q + k) 0
-  pub bytes : (w k : ℕ) → w < 64 → k < 4 → getD (R′ .rows) (256 * q + 4 * w + k) 0 ≡ getD (R .rows) (256 * q + 4 * w + k) 0
+  pub scope : (k : ℕ) → k < 4 → getD (R′ .scope) (scopePlace q k) 0 ≡ getD (R .scope) (scopePlace q k) 0
+  pub bytes : (w k : ℕ) → w < 64 → k < 4 → getD (R′ .rows) (rowPlace q w k) 0 ≡ getD (R .rows) (rowPlace q w k) 0
 
 -- THE RULE IS WRITTEN under number p: the bytes there are its data; every other rule, and every length, is as it was
 pub record RuleWritten (p : ℕ) (rule : RuleData) (R R′ : RuleBytes) : Type 0 where
   pub arity : getD (R′ .arity) p 0 ≡ rule .arity
   pub lengths : getD (R′ .lengths) p 0 ≡ rule .length
-  pub scope : (k : ℕ) → k < 4 → getD (R′ .scope) (4 * p + k) 0 ≡ getD (rule .scope) k 0
-  pub bytes : (w k : ℕ) → w < 64 → k < 4 → getD (R′ .rows) (256 * p + 4 * w + k) 0 ≡ getD (rule .rows) (4 * w + k) 0
+  pub scope : (k : ℕ) → k < 4 → getD (R′ .scope) (scopePlace p k) 0 ≡ getD (rule .scope) k 0
+  pub bytes : (w k : ℕ) → w < 64 → k < 4 → getD (R′ .rows) (rowPlace p w k) 0 ≡ getD (rule .rows) (ownPlace w k) 0
   pub other : (q : ℕ) → q ≢ p → SameRule R R′ q
   pub rows-size : length (R′ .rows) ≡ length (R .rows)
   pub arity-size : length (R′ .arity) ≡ length (R .arity)

@@ -4,13 +4,13 @@ use mathlib.Core.List.{List}
 use Prim.Native.Nat.{ℕ, _+_, _*_, _<_}
 use Rattle.filter_propagate.specs.Rules.{RuleBytes}
 use Rattle.filter_propagate.specs.Rows.{HoldsStruck}
-use Rattle.layout.specs.Places.{columnsOf, rowsOf}
+use Rattle.layout.specs.Places.{columnsOf, rowsOf, killerPlace}
 
 -- a living row of rule p was killed: killer byte j is its, had no killer, and got a column that holds a struck slot
 pub record Kill (R : RuleBytes) (slots : List ℕ) (p j old new : ℕ) : Type 0 where
   pub was : old ≡ 255
   pub row : ℕ
   pub inside : row < rowsOf (R .lengths) p
-  pub place : j ≡ 64 * p + row
+  pub place : j ≡ killerPlace p row
   pub column : new < columnsOf (R .arity) p
   pub struck : HoldsStruck (R .rows) slots (R .scope) p row new

@@ -6,11 +6,11 @@ use Prim.Native.Nat.{ℕ, _+_, _*_, _<_}
 use lib.ListN.{getD}
 use Rattle.filter_propagate.specs.Rules.{RuleBytes, Progress}
 use Rattle.filter_propagate.specs.Rows.{NoneStruck, Support}
-use Rattle.layout.specs.Places.{columnsOf, rowsOf, callOf, killerOf}
+use Rattle.layout.specs.Places.{columnsOf, rowsOf, callOf, killerOf, slotPlace}
 
 pub record StableBytes (R : RuleBytes) (killers slots : List ℕ) (q : ℕ) : Type 0 where
   pub alive : (w : ℕ) → w < rowsOf (R .lengths) q → killerOf killers q w ≡ 255 → NoneStruck (R .rows) slots (R .scope) q (columnsOf (R .arity) q) w
-  pub held : (k s : ℕ) → k < columnsOf (R .arity) q → s < 32 → getD slots (32 * callOf (R .scope) q k + s) 0 ≡ 255 → Support (R .rows) killers q (rowsOf (R .lengths) q) k s
+  pub held : (k s : ℕ) → k < columnsOf (R .arity) q → s < 32 → getD slots (slotPlace (callOf (R .scope) q k) s) 0 ≡ 255 → Support (R .rows) killers q (rowsOf (R .lengths) q) k s
 
 -- every rule that is not pending is stable
 abbrev pub Calm : RuleBytes → Progress → Type 0

@@ -7,7 +7,7 @@ use lib.Dec.{eqb, ltb}
 use lib.ListN.{getD}
 use Rattle.tables.specs.Assign.{Assigned, Flagged, Below}
 use Rattle.tables.specs.Count.{count}
-use Rattle.layout.specs.Places.{callOf}
+use Rattle.layout.specs.Places.{callOf, slotPlace}
 
 -- a slot byte that is open, and one that is struck
 abbrev pub isOpen : ℕ → Bool
@@ -26,7 +26,7 @@ pub record SlotsStruck (Q : ℕ → Type 0) (p r : ℕ) (old new : List ℕ) : T
 
 -- slot byte j is that of slot s of call c, and N s holds
 abbrev pub SlotWith : (ℕ → Type 0) → ℕ → ℕ → ℕ → Type 0
-SlotWith N c s j = (j ≡ 32 * c + s) × N s
+SlotWith N c s j = (j ≡ slotPlace c s) × N s
 
 -- it is that of a slot of call c
 abbrev pub CallWith : (ℕ → Type 0) → ℕ → ℕ → Type 0
@@ -42,7 +42,7 @@ Unlisted supported k s = getD supported (32 * k + s) false ≡ false
 
 -- a slot of call c was struck: it was open, and is not
 abbrev pub StruckOn : List ℕ → List ℕ → ℕ → Type 0
-StruckOn old new c = (s : ℕ) × (s < 32) × (getD old (32 * c + s) 0 ≡ 255) × (getD new (32 * c + s) 0 ≡ 255 → ⊥)
+StruckOn old new c = (s : ℕ) × (s < 32) × (getD old (slotPlace c s) 0 ≡ 255) × (getD new (slotPlace c s) 0 ≡ 255 → ⊥)
 
 -- the slots of n columns of rule p that are not in the table are struck, and the calls where one was struck are flagged
 pub record ColumnsStruck (supported : List Bool) (scope : List ℕ) (p n r : ℕ) (old new : List ℕ) (changed after : List Bool) : Type 0 where

@@ -7,7 +7,7 @@ use lib.ListN.{length, getD}
 use Rattle.filter_propagate.specs.Rules.{RuleBytes}
 use Rattle.filter_propagate.specs.Queue.{IsFlagged}
 use Rattle.filter_relax.specs.Touched.{KillerVisited}
-use Rattle.layout.specs.Places.{columnsOf, rowsOf}
+use Rattle.layout.specs.Places.{columnsOf, rowsOf, killerPlace}
 
 -- a byte becomes v where P holds, and stays where it does not
 pub record Replaced (v : ℕ) (P : Type 0) (old new : ℕ) : Type 0 where
@@ -34,5 +34,5 @@ RuleRevived R visited pending q w old new = Replaced 255 (PendingFreed R visited
 -- the 64 entries of each of the first n rules went by S, and no other changed
 pub record Blocks (S : ℕ → ℕ → ℕ → ℕ → Type 0) (n : ℕ) (old new : List ℕ) : Type 0 where
   pub len : length new ≡ length old
-  pub inside : (q w : ℕ) → q < n → w < 64 → S q w (getD old (64 * q + w) 0) (getD new (64 * q + w) 0)
+  pub inside : (q w : ℕ) → q < n → w < 64 → S q w (getD old (killerPlace q w) 0) (getD new (killerPlace q w) 0)
   pub above : (j : ℕ) → 64 * n ≤ j → getD new j 0 ≡ getD old j 0

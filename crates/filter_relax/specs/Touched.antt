@@ -8,7 +8,7 @@ use Rattle.tables.specs.Assign.{Below}
 use Rattle.filter_propagate.specs.Rules.{RuleBytes}
 use Rattle.filter_propagate.specs.Queue.{IsFlagged}
 use Rattle.filter_relax.specs.Reach.{Reach}
-use Rattle.layout.specs.Places.{columnsOf, rowsOf, callOf, killerOf, rowCell}
+use Rattle.layout.specs.Places.{columnsOf, rowsOf, callOf, killerOf, rowCell, slotPlace}
 
 -- slot byte j is byte i, and its cause is q
 pub record CausedAt (slots : List ℕ) (q i j : ℕ) : Type 0 where
@@ -49,7 +49,7 @@ NoOwnKill R killers slots =
 
 -- the slots with cause p: of call c; and of the calls of the first n columns of rule p, which are the seed of a retraction of p
 abbrev pub CallCaused : List ℕ → ℕ → ℕ → ℕ → Type 0
-CallCaused slots p c = Below (λ s. CausedAt slots p (32 * c + s)) 32
+CallCaused slots p c = Below (λ s. CausedAt slots p (slotPlace c s)) 32
 
 abbrev pub Seeded : List ℕ → List ℕ → ℕ → ℕ → ℕ → Type 0
 Seeded slots scope p n = Below (λ k. CallCaused slots p (callOf scope p k)) n
@@ -61,7 +61,7 @@ pub record KillerVisited (rows scope : List ℕ) (visited : List Bool) (q n w x 
 
 -- a slot of call c is visited
 abbrev pub HasVisited : List Bool → ℕ → Type 0
-HasVisited visited c = (s : ℕ) × (s < 32) × IsFlagged visited (32 * c + s)
+HasVisited visited c = (s : ℕ) × (s < 32) × IsFlagged visited (slotPlace c s)
 
 -- the flagged calls cover the visited
 abbrev pub Covers : List Bool → List Bool → Type 0

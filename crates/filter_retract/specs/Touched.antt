@@ -3,7 +3,8 @@ use mathlib.Core.List.{List}
 use mathlib.Core.Bool.{Bool}
 use Prim.Native.Nat.{ℕ, _+_, _*_}
 use Rattle.filter_propagate.specs.Queue.{IsFlagged}
+use Rattle.layout.specs.Places.{slotPlace}
 
 -- slot s of call c is visited
 abbrev pub Visited : List Bool → ℕ → ℕ → Type 0
-Visited visited c s = IsFlagged visited (32 * c + s)
+Visited visited c s = IsFlagged visited (slotPlace c s)

@@ -1,4 +1,5 @@
 -- A STATE OF THE MEMORY: the value and the three buffers, and the fresh one.
+use mathlib.Core.Path.{_≡_}
 use mathlib.Core.List.{List}
 use Prim.Native.Nat.{ℕ, _<_}
 use denote.Ref.{RefT, now}
@@ -6,7 +7,6 @@ use lib.ListN.{length, replicate, getD}
 use Rattle.layout.specs.declared.value.Value.{Value}
 use Rattle.layout.specs.Value.{freshValue}
 use Rattle.layout.specs.Sizes.{Lent, killersLength, rowsLength, slotsLength}
-use mathlib.Core.Path.{_≡_}
 
 -- A STATE: the value and the three buffers
 pub record State : Type 0 where
@@ -22,9 +22,11 @@ stateOf value rows killers slots = record { value = value; rows = rows; killers 
 abbrev pub memory : Value → RefT (List ℕ) → RefT (List ℕ) → RefT (List ℕ) → State
 memory value rows killers slots = stateOf value (now rows) (now killers) (now slots)
 
+-- the lengths of its buffers
 abbrev pub lentOf : State → Lent
 lentOf s = record { rows = length (s .rows); killers = length (s .killers); slots = length (s .slots) }
 
+-- before the first command (SCOPE 2.6)
 abbrev pub freshState : State
 freshState = record { value = freshValue; rows = replicate rowsLength 255; killers = replicate killersLength 255; slots = replicate slotsLength 254 }
 

@@ -5,25 +5,45 @@ use Prim.Native.Nat.{ℕ, _+_, _*_, _%_, _<_, min}
 use lib.ListN.{getD}
 use Rattle.layout.specs.Sizes.{slotsLength}
 
--- the slot byte of call c and slot s
+-- THE PLACES (SCOPE 2.1 to 2.3): of row w of rule p and its column k, of that row's killer, of slot s of call c; of column k of rule p among the heads; and of column k of
+-- row w in the rows of one rule
+abbrev pub rowStart : ℕ → ℕ → ℕ
+rowStart p w = 256 * p + 4 * w
+
+abbrev pub rowPlace : ℕ → ℕ → ℕ → ℕ
+rowPlace p w k = rowStart p w + k
+
+abbrev pub killerPlace : ℕ → ℕ → ℕ
+killerPlace p w = 64 * p + w
+
+abbrev pub slotPlace : ℕ → ℕ → ℕ
+slotPlace c s = 32 * c + s
+
+abbrev pub scopePlace : ℕ → ℕ → ℕ
+scopePlace p k = 4 * p + k
+
+abbrev pub ownPlace : ℕ → ℕ → ℕ
+ownPlace w k = 4 * w + k
+
+-- the slot byte of call c and slot s, both taken modulo 32
 abbrev pub cellOf : ℕ → ℕ → ℕ
-cellOf c s = 32 * (c % 32) + s % 32
+cellOf c s = slotPlace (c % 32) (s % 32)
 
 -- the call of column k of rule p
 abbrev pub callOf : List ℕ → ℕ → ℕ → ℕ
-callOf scope p k = getD scope (4 * p + k) 0 % 32
+callOf scope p k = getD scope (scopePlace p k) 0 % 32
 
 -- the slot in column k of row w of rule p
 abbrev pub slotOf : List ℕ → ℕ → ℕ → ℕ → ℕ
-slotOf rows p w k = getD rows (256 * p + 4 * w + k) 0 % 32
+slotOf rows p w k = getD rows (rowPlace p w k) 0 % 32
 
 -- the killer byte of row w of rule p
 abbrev pub killerOf : List ℕ → ℕ → ℕ → ℕ
-killerOf killers p w = getD killers (64 * p + w) 0
+killerOf killers p w = getD killers (killerPlace p w) 0
 
 -- the slot byte of column k of row w of rule p
 unfoldable pub rowCell : List ℕ → List ℕ → ℕ → ℕ → ℕ → ℕ
-rowCell rows scope p w k = 32 * callOf scope p k + slotOf rows p w k
+rowCell rows scope p w k = slotPlace (callOf scope p k) (slotOf rows p w k)
 
 -- r is that place, and lies within the slot bytes
 pub record AtRowCell (rows scope : List ℕ) (p w k r : ℕ) : Type 0 where
@@ -39,4 +59,4 @@ rowsOf lengths p = min (getD lengths p 0) 64
 
 -- the byte of slot s of call c (SCOPE 2.3)
 abbrev pub causeOf : List ℕ → ℕ → ℕ → ℕ
-causeOf slots c s = getD slots (32 * c + s) 0
+causeOf slots c s = getD slots (slotPlace c s) 0

@@ -5,7 +5,7 @@ use Rattle.layout.specs.declared.value.RuleData.{RuleData}
 use Rattle.layout.specs.declared.value.Draft.{Draft}
 use Rattle.layout.specs.declared.value.Value.{Value}
 
--- THE FRESH STATE (SCOPE 2.6), and in its value the empty draft (2.5)
+-- before the first command there are no calls and no rule in force (SCOPE 2.6), and there is no draft (2.5)
 abbrev pub freshHeads : Heads
 freshHeads = record { counts = replicate 32 0; arity = replicate 64 0; scope = replicate 256 255; lengths = replicate 64 0 }
 

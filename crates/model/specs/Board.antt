@@ -1,6 +1,6 @@
 -- CALLS, SLOTS, RULES (SCOPE 1): what a board is and what its rules ask, with no byte of the lent memory in it.
 use mathlib.Core.Path.{_≡_}
-use mathlib.Core.Bool.{Bool}
+use mathlib.Core.Bool.{Bool, true, _&&_}
 use mathlib.Core.List.{List, []}
 use mathlib.Core.Option.{Option, none, some}
 use mathlib.Core.Logic.{_≢_}
@@ -34,20 +34,28 @@ OnBoard B c s = s < getD (B .counts) c 0
 abbrev pub InForce : Board → ℕ → Rule → Type 0
 InForce B p r = getD (B .rules) p none ≡ some r
 
--- COLUMN k OF RULE r COUNTS on the board: every column of the rule does. All that a rule asks of its rows' slots goes by this one definition
+-- CALL c TAKES PART on the board: every call does. (Order 6 will leave cancelled calls out here.)
+unfoldable pub live? : Board → ℕ → Bool
+live? B c = true
+
+abbrev pub Live : Board → ℕ → Type 0
+Live B c = T (live? B c)
+
+-- COLUMN k OF RULE r IS ACTIVE on the board: it is a column of the rule, and its call takes part. All that a rule asks of its rows' slots goes by this one
+-- definition
 unfoldable pub active? : Board → Rule → ℕ → Bool
-active? B r k = ltb k (length (r .scope))
+active? B r k = ltb k (length (r .scope)) && live? B (callAt r k)
 
 abbrev pub Active : Board → Rule → ℕ → Type 0
 Active B r k = T (active? B r k)
 
--- r is a rule on call c
+-- call c is in the scope of r, a rule on it: an active column has the call
 pub record InScope (B : Board) (r : Rule) (c : ℕ) : Type 0 where
   pub column : ℕ
   pub active : Active B r column
   pub call : callAt r column ≡ c
 
--- slot s of call c stands in row w of r
+-- slot s of call c stands in row w of r, in an active column
 pub record Holds (B : Board) (r : Rule) (w c s : ℕ) : Type 0 where
   pub column : ℕ
   pub active : Active B r column

@@ -15,7 +15,7 @@ use Rattle.model.specs.declared.command.Read.the-variants as found
 use Rattle.model.specs.Board.{Rule, Board, callAt, slotAt, GoodRule, Shape}
 use Rattle.model.specs.Tests.{some?, every?, isNone}
 use Rattle.model.specs.Commands.{scopeOf, slotsOf, readAt}
-use Rattle.layout.specs.Sizes.{Lent, badLent?}
+use Rattle.layout.specs.Sizes.{Lent, badLent?, killersLength, rowsLength, slotsLength}
 use Rattle.model.specs.Refusals.{firstOf}
 use Rattle.model.specs.Numbers as refused
 
@@ -45,6 +45,7 @@ abbrev pub draftOr : Option NumberedRule → NumberedRule
 draftOr none = record { number = 255; rule = record { scope = []; rows = [] } }
 draftOr (some d) = d
 
+-- 1: of what is lent with a command
 abbrev pub lentConditions : Lent → List (Bool × ℕ)
 lentConditions lent = (badLent? lent, refused.bufferLength) ∷ []
 
@@ -68,18 +69,20 @@ badNumber? n = ltb 63 n
 abbrev pub notInForce? : Ledger → ℕ → Bool
 notInForce? L n = isNone (getD (L .board .rules) n none)
 
--- each kind's own conditions, in the order of SCOPE 4.3. ns are the 32 counts that stand beside a kind 1
-abbrev pub kindConditions : Ledger → Command → List ℕ → List (Bool × ℕ)
-kindConditions L kind.Board ns = (badCounts? ns, refused.badCounts) ∷ []
-kindConditions L (kind.Head h) ns =
+-- EACH KIND'S OWN CONDITIONS, in the order of SCOPE 4.3, for whoever enters it: `reserved` has what is checked right behind 7 of a rule's number, for numbers that
+-- are another's. ns are the 32 counts that stand beside a kind 1
+abbrev pub conditionsFor : (ℕ → List (Bool × ℕ)) → Ledger → Command → List ℕ → List (Bool × ℕ)
+conditionsFor reserved L kind.Board ns = (badCounts? ns, refused.badCounts) ∷ []
+conditionsFor reserved L (kind.Head h) ns =
     (noBoard? L, refused.noBoard)
     ∷ (badNumber? (h .number), refused.badNumber)
-    ∷ (ltb (h .arity) 1 || ltb 4 (h .arity), refused.badArity)
+    ∷ (reserved (h .number)
+    ++ ((ltb (h .arity) 1 || ltb 4 (h .arity), refused.badArity)
     ∷ (some? (h .arity) (λ k. leb (length (L .board .counts)) (getD (scopeOf h) k 255)), refused.callOffBoard)
     ∷ (some? (h .arity) (λ k. some? k (λ j. eqb (getD (scopeOf h) j 255) (getD (scopeOf h) k 255))), refused.callTwice)
     ∷ (badSpare? (h .arity) (scopeOf h), refused.spareField)
-    ∷ []
-kindConditions L (kind.Row w) ns =
+    ∷ []))
+conditionsFor reserved L (kind.Row w) ns =
     let r = draftOr (L .draft) .rule in
     (noBoard? L, refused.noBoard)
     ∷ (isNone (L .draft), refused.noDraft)
@@ -88,8 +91,15 @@ kindConditions L (kind.Row w) ns =
     ∷ (badSpare? (length (r .scope)) (slotsOf w), refused.spareField)
     ∷ (some? (length (r .rows)) (λ v. every? (length (r .scope)) (λ k. eqb (slotAt r v k) (getD (slotsOf w) k 255))), refused.rowTwice)
     ∷ []
-kindConditions L kind.Post ns = (noBoard? L, refused.noBoard) ∷ (isNone (L .draft), refused.noDraft) ∷ (not (notInForce? L (draftOr (L .draft) .number)), refused.inForce) ∷ []
-kindConditions L (kind.Retract n) ns = (noBoard? L, refused.noBoard) ∷ (badNumber? n, refused.badNumber) ∷ (notInForce? L n, refused.notInForce) ∷ []
+conditionsFor reserved L kind.Post ns = (noBoard? L, refused.noBoard) ∷ (isNone (L .draft), refused.noDraft) ∷ (not (notInForce? L (draftOr (L .draft) .number)), refused.inForce) ∷ []
+conditionsFor reserved L (kind.Retract n) ns = (noBoard? L, refused.noBoard) ∷ (badNumber? n, refused.badNumber) ∷ (reserved n ++ ((notInForce? L n, refused.notInForce) ∷ []))
+
+-- the board itself reserves no number
+abbrev pub noneReserved : ℕ → List (Bool × ℕ)
+noneReserved n = []
+
+abbrev pub kindConditions : Ledger → Command → List ℕ → List (Bool × ℕ)
+kindConditions L c ns = conditionsFor noneReserved L c ns
 
 -- 3 and 4 of a command's bytes: 3 also where there is no byte at all, 4 also where bytes are left over
 abbrev pub formConditions : Read → Bool → List (Bool × ℕ)
@@ -168,3 +178,10 @@ stepBy L m = step L (m .lent) (m .bytes)
 
 abbrev pub run : Ledger → List Member → Ledger
 run L ms = ledgerAfter stepBy L ms
+
+-- the lengths of what is lent, right
+abbrev pub lengths : Lent
+lengths = record { rows = rowsLength; killers = killersLength; slots = slotsLength }
+
+abbrev pub member : List ℕ → Member
+member bytes = record { bytes = bytes; lent = lengths }

@@ -31,6 +31,10 @@ abbrev pub valuesOf : Answer → List ℕ
 valuesOf (answer.Accepted r) = reportValues r
 valuesOf (answer.Refused n) = []
 
+-- no refusal has the number 0 (SCOPE 4.1)
+abbrev pub NeverZero : Answer → Type 0
+NeverZero given = given ≡ answer.Refused 0 → ⊥
+
 -- values go with the number 0 alone
 abbrev pub valuesAt : ℕ → List ℕ → List ℕ
 valuesAt zero values = values
@@ -44,7 +48,7 @@ abbrev pub acceptedWith : ℕ → ℕ → ℕ → Value → Outcome
 acceptedWith struck reopened touched value = record { answer = answer.Accepted (record { struck = struck; reopened = reopened; touched = touched }); value = value }
 
 -- the report of what was read: of a command by its kind
-abbrev pub ReportsOf : Read → List ℕ → List ℕ → Report → Type 0
+abbrev pub ReportsOf : Read → State → State → Report → Type 0
 ReportsOf (found.Command c) before after r = Reports c before after r
 ReportsOf (found.Refused k n) before after r = ⊥
 ReportsOf found.End before after r = ⊥
@@ -60,15 +64,16 @@ pub record Decided (n : ℕ) (Reported : Report → Type 0) (L : Ledger) (given 
 -- on a state that is the ledger L's: the first condition of the whole table decides, and the state after is the stepped ledger's
 abbrev pub Answered : Ledger → State → List ℕ → Answer → State → Type 0
 Answered L before bytes given after =
-    Decided (refusal L (lentOf before) bytes) (ReportsOf (readAt bytes 0 .read) (before .slots) (after .slots)) (step L (lentOf before) bytes) given after
+    Decided (refusal L (lentOf before) bytes) (ReportsOf (readAt bytes 0 .read) before after) (step L (lentOf before) bytes) given after
 
 -- the same of a command that has been read, with the kind's own conditions: what the functions under the entry promise
 abbrev pub Obeyed : Ledger → State → Command → List ℕ → Answer → State → Type 0
 Obeyed L before c ns given after =
-    Decided (firstOf (kindConditions L c ns)) (Reports c (before .slots) (after .slots)) (obey (firstOf (kindConditions L c ns)) L (found.Command c) ns) given after
+    Decided (firstOf (kindConditions L c ns)) (Reports c before after) (obey (firstOf (kindConditions L c ns)) L (found.Command c) ns) given after
 
 pub record KindPromise (before : State) (c : Command) (ns : List ℕ) (given : Answer) (after : State) : Type 0 where
   pub refused : (n : ℕ) → given ≡ answer.Refused n → after ≡ before
+  pub never-zero : NeverZero given
   pub obeyed : (L : Ledger) → LedgerShape L → Represents L before → Obeyed L before c ns given after
 
 -- a kind 1 whose form is right, whatever the memory held: decided by its counts alone, and a board of these counts is made new
@@ -80,8 +85,9 @@ pub record BoardMade (ns : List ℕ) (given : Answer) (after : State) : Type 0 w
 pub record Promise (before : State) (bytes : List ℕ) (given : Answer) (after : State) : Type 0 where
   -- WHATEVER THE MEMORY HOLDS (SCOPE 2.7): 1, 3 and 4 are given on their conditions
   pub early : (n : ℕ) → firstOf (earlyConditions (lentOf before) bytes) ≡ suc n → numberOf given ≡ suc n
-  -- a refusal leaves value and buffers as they were (SCOPE 4.2)
+  -- a refusal leaves value and buffers as they were (SCOPE 4.2), and has a number
   pub refused : (n : ℕ) → given ≡ answer.Refused n → after ≡ before
+  pub never-zero : NeverZero given
   -- a kind 1 does the same on every memory
   pub made : firstOf (earlyConditions (lentOf before) bytes) ≡ 0 → readAt bytes 0 .read ≡ found.Command kind.Board
       → BoardMade (readAt bytes 0 .counts) given after

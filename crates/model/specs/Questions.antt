@@ -3,9 +3,10 @@
 use mathlib.Core.Path.{_≡_}
 use mathlib.Core.Bool.{Bool, _&&_, cond}
 use mathlib.Core.List.{List, [], _∷_, _++_}
-use Prim.Native.Nat.{ℕ, zero, suc, _+_, _*_, _^_, _<_}
+use mathlib.Core.Logic.{_↔_}
+use Prim.Native.Nat.{ℕ, zero, suc, _+_, _*_, _/_, _%_, _^_, _<_}
 use lib.ListN.{length, getD, take, drop}
-use lib.Dec.{eqb, ltb, leb}
+use lib.Dec.{T, eqb, ltb, leb}
 use Rattle.layout.specs.declared.value.Heads.{Heads}
 use Rattle.model.specs.declared.answer.OpenSlots.{OpenSlots}
 use Rattle.model.specs.declared.answer.OpenSlots.the-variants as slots
@@ -17,20 +18,24 @@ use Rattle.model.specs.declared.answer.Support.{Support}
 use Rattle.model.specs.declared.answer.Support.the-variants as support
 use Rattle.model.specs.Board.{Rule, Board, callAt, slotAt, InForce, Active, InScope, Viable, Alive}
 use Rattle.model.specs.Tests.{countBelow, first}
-use Rattle.model.specs.Ledger.{Ledger, LedgerShape, lentConditions, noBoard?, badNumber?, notInForce?}
+use Rattle.model.specs.Ledger.{Ledger, LedgerShape, noBoard?, badNumber?, notInForce?}
 use Rattle.model.specs.Report.{open?}
 use Rattle.model.specs.Promise.{valuesAt}
 use Rattle.model.specs.Representation.{noCalls?, Represents, ruleAt}
-use Rattle.layout.specs.Places.{causeOf, columnsOf, killerOf, rowsOf}
+use Rattle.layout.specs.Places.{causeOf, columnsOf, killerOf, rowsOf, rowPlace, scopePlace, rowStart}
 use Rattle.layout.specs.Memory.{State, lentOf}
-use Rattle.layout.specs.Sizes.{Lent}
+use Rattle.layout.specs.Sizes.{Lent, badLent?}
 use Rattle.model.specs.Refusals.{firstOf}
 use Rattle.model.specs.Numbers as refused
+
+-- 1: of what is lent with a question
+abbrev pub askedConditions : Lent → List (Bool × ℕ)
+askedConditions lent = (badLent? lent, refused.bufferLength) ∷ []
 
 -- THE REFUSALS, off a ledger, in the order of SCOPE 4.3: 1 and 6 of every question; then 18 of a call and 19 of its slot, or 7 and 17 of a rule and 20 of its
 -- row, or 21 of its column
 abbrev pub boardConditions : Ledger → Lent → List (Bool × ℕ)
-boardConditions L lent = lentConditions lent ++ ((noBoard? L, refused.noBoard) ∷ [])
+boardConditions L lent = askedConditions lent ++ ((noBoard? L, refused.noBoard) ∷ [])
 
 abbrev pub callConditions : Ledger → Lent → ℕ → List (Bool × ℕ)
 callConditions L lent c = boardConditions L lent ++ ((leb (length (L .board .counts)) c, refused.noCall) ∷ [])
@@ -55,7 +60,7 @@ abbrev pub slotsHeld : Heads → ℕ → ℕ
 slotsHeld h c = getD (h .counts) c 0
 
 abbrev pub boardChecks : State → List (Bool × ℕ)
-boardChecks s = lentConditions (lentOf s) ++ ((noCalls? (s .value .heads .counts), refused.noBoard) ∷ [])
+boardChecks s = askedConditions (lentOf s) ++ ((noCalls? (s .value .heads .counts), refused.noBoard) ∷ [])
 
 abbrev pub callChecks : State → ℕ → List (Bool × ℕ)
 callChecks s c = boardChecks s ++ ((eqb (slotsHeld (s .value .heads) c) 0, refused.noCall) ∷ [])
@@ -72,7 +77,7 @@ rowChecks s p w = ruleChecks s p ++ ((leb (rowsOf (s .value .heads .lengths) p) 
 abbrev pub supportChecks : State → ℕ → ℕ → ℕ → List (Bool × ℕ)
 supportChecks s p k t =
     let h = s .value .heads in
-    ruleChecks s p ++ ((leb (columnsOf (h .arity) p) k, refused.noColumn) ∷ (leb (slotsHeld h (getD (h .scope) (4 * p + k) 0)) t, refused.noSlot) ∷ [])
+    ruleChecks s p ++ ((leb (columnsOf (h .arity) p) k, refused.noColumn) ∷ (leb (slotsHeld h (getD (h .scope) (scopePlace p k) 0)) t, refused.noSlot) ∷ [])
 
 -- SLOTS OF A CALL (SCOPE 5.1). A mask is the sum of the weights, 2 to the s, of the numbers s below n that pass
 abbrev pub maskOf : ℕ → (ℕ → Bool) → ℕ
@@ -96,19 +101,36 @@ slotsBy (suc n) bytes c = slots.Refused (suc n)
 abbrev pub slotsAnswer : State → ℕ → OpenSlots
 slotsAnswer s c = slotsBy (firstOf (callChecks s c)) (s .slots) c
 
+-- bit t of a mask, which weighs 2 to the t, is 1: the mask halved t times is odd
+abbrev pub bit? : ℕ → ℕ → Bool
+bit? m zero = eqb (m % 2) 1
+bit? m (suc t) = bit? (m / 2) t
+
+-- what it says of the board: bit t is 1 exactly where slot t is open, and the count is that of the bits that are 1
+abbrev pub SlotsMeans : Board → ℕ → OpenSlots → Type 0
+SlotsMeans B c (slots.Mask m n) = ((t : ℕ) → T (bit? m t) ↔ Viable B c t) × (n ≡ countBelow 32 (bit? m))
+SlotsMeans B c (slots.Refused n) = ⊥
+
 pub record SlotsAnswered (L : Ledger) (s : State) (c : ℕ) (given : OpenSlots) : Type 0 where
   pub number : slotsNumber given ≡ firstOf (callConditions L (lentOf s) c)
   pub values : slotsValues given ≡ valuesAt (firstOf (callConditions L (lentOf s) c)) (maskOf 32 (open? (s .slots) c) ∷ countBelow 32 (open? (s .slots) c) ∷ [])
+  pub means : firstOf (callConditions L (lentOf s) c) ≡ 0 → SlotsMeans (L .board) c given
 
 pub record SlotsPromise (s : State) (c : ℕ) (given : OpenSlots) : Type 0 where
   pub equation : given ≡ slotsAnswer s c
   pub answered : (L : Ledger) → LedgerShape L → Represents L s → SlotsAnswered L s c given
 
--- STATE OF A SLOT (SCOPE 5.2): the number of its answer, and the answer off the slot's byte
+-- STATE OF A SLOT (SCOPE 5.2): the number and values of its answer, and the answer off the slot's byte
 abbrev pub stateNumber : SlotState → ℕ
 stateNumber state.Open = 0
 stateNumber (state.Struck n) = 0
 stateNumber (state.Refused n) = n
+
+-- the cause; 255 of an open slot, as in its byte
+abbrev pub stateValues : SlotState → List ℕ
+stateValues state.Open = 255 ∷ []
+stateValues (state.Struck n) = n ∷ []
+stateValues (state.Refused n) = []
 
 abbrev pub stateBy : ℕ → ℕ → SlotState
 stateBy zero byte = cond (eqb byte 255) state.Open (state.Struck byte)
@@ -125,17 +147,24 @@ StateMeans B c t (state.Refused n) = ⊥
 
 pub record StateAnswered (L : Ledger) (s : State) (c t : ℕ) (given : SlotState) : Type 0 where
   pub number : stateNumber given ≡ firstOf (slotConditions L (lentOf s) c t)
+  pub values : stateValues given ≡ valuesAt (firstOf (slotConditions L (lentOf s) c t)) (causeOf (s .slots) c t ∷ [])
   pub means : firstOf (slotConditions L (lentOf s) c t) ≡ 0 → StateMeans (L .board) c t given
 
 pub record StatePromise (s : State) (c t : ℕ) (given : SlotState) : Type 0 where
   pub equation : given ≡ stateAnswer s c t
   pub answered : (L : Ledger) → LedgerShape L → Represents L s → StateAnswered L s c t given
 
--- A ROW OF A RULE (SCOPE 5.3): the number of its answer, and the answer off the row's killer byte
+-- A ROW OF A RULE (SCOPE 5.3): the number and values of its answer, and the answer off the row's killer byte
 abbrev pub rowNumber : RowState → ℕ
 rowNumber row.Alive = 0
 rowNumber (row.Killed k) = 0
 rowNumber (row.Refused n) = n
+
+-- the killer's column; 255 of a living row, as in its killer's byte
+abbrev pub rowValues : RowState → List ℕ
+rowValues row.Alive = 255 ∷ []
+rowValues (row.Killed k) = k ∷ []
+rowValues (row.Refused n) = []
 
 abbrev pub rowBy : ℕ → ℕ → RowState
 rowBy zero byte = cond (eqb byte 255) row.Alive (row.Killed byte)
@@ -152,6 +181,7 @@ RowMeans B r w (row.Refused n) = ⊥
 
 pub record RowAnswered (L : Ledger) (s : State) (p w : ℕ) (given : RowState) : Type 0 where
   pub number : rowNumber given ≡ firstOf (rowConditions L (lentOf s) p w)
+  pub values : rowValues given ≡ valuesAt (firstOf (rowConditions L (lentOf s) p w)) (killerOf (s .killers) p w ∷ [])
   pub means : firstOf (rowConditions L (lentOf s) p w) ≡ 0 → RowMeans (L .board) (ruleAt (L .board) p) w given
 
 pub record RowPromise (s : State) (p w : ℕ) (given : RowState) : Type 0 where
@@ -160,7 +190,7 @@ pub record RowPromise (s : State) (p w : ℕ) (given : RowState) : Type 0 where
 
 -- THAT ROW'S FOUR BYTES (SCOPE 5.4), where they stand in the row buffer that is lent; no bytes where the row's question is refused
 abbrev pub bytesBy : ℕ → List ℕ → ℕ → ℕ → List ℕ
-bytesBy zero rows p w = take 4 (drop (256 * p + 4 * w) rows)
+bytesBy zero rows p w = take 4 (drop (rowStart p w) rows)
 bytesBy (suc n) rows p w = []
 
 abbrev pub rowBytesAnswer : State → ℕ → ℕ → List ℕ
@@ -182,13 +212,22 @@ supportNumber (support.Row w) = 0
 supportNumber support.Nothing = 0
 supportNumber (support.Refused n) = n
 
+-- the row's number; 255, which is no row's, for none
+abbrev pub supportValues : Support → List ℕ
+supportValues (support.Row w) = w ∷ []
+supportValues support.Nothing = 255 ∷ []
+supportValues (support.Refused n) = []
+
 -- row w has no killer and the slot t in column k
 abbrev pub supports? : State → ℕ → ℕ → ℕ → ℕ → Bool
-supports? s p k t w = eqb (killerOf (s .killers) p w) 255 && eqb (getD (s .rows) (256 * p + 4 * w + k) 0) t
+supports? s p k t w = eqb (killerOf (s .killers) p w) 255 && eqb (getD (s .rows) (rowPlace p w k) 0) t
 
--- the row found among m, or none where it is m
+-- the row found among m, or none where it is m; and the same as a value
 abbrev pub foundRow : ℕ → ℕ → Support
 foundRow m w = cond (ltb w m) (support.Row w) support.Nothing
+
+abbrev pub foundValue : ℕ → ℕ → ℕ
+foundValue m w = cond (ltb w m) w 255
 
 abbrev pub supportBy : ℕ → ℕ → ℕ → Support
 supportBy zero m w = foundRow m w
@@ -207,6 +246,8 @@ SupportMeans B r k t (support.Refused n) = ⊥
 
 pub record SupportAnswered (L : Ledger) (s : State) (p k t : ℕ) (given : Support) : Type 0 where
   pub number : supportNumber given ≡ firstOf (supportConditions L (lentOf s) p k t)
+  pub values : let m = length (ruleAt (L .board) p .rows) in
+      supportValues given ≡ valuesAt (firstOf (supportConditions L (lentOf s) p k t)) (foundValue m (first m (supports? s p k t)) ∷ [])
   pub means : firstOf (supportConditions L (lentOf s) p k t) ≡ 0 → SupportMeans (L .board) (ruleAt (L .board) p) k t given
 
 pub record SupportPromise (s : State) (p k t : ℕ) (given : Support) : Type 0 where

@@ -1,6 +1,6 @@
 -- S, R AND T (SCOPE 3.7 to 3.10): what an accepted command reports of the slots that it struck, reopened and touched.
 use mathlib.Core.Path.{_≡_}
-use mathlib.Core.Bool.{Bool, not, _&&_}
+use mathlib.Core.Bool.{Bool, true, false, not, _&&_, cond}
 use mathlib.Core.List.{List}
 use Prim.Native.Nat.{ℕ, _/_, _%_, _≤_}
 use lib.ListN.{getD}
@@ -12,6 +12,7 @@ use Rattle.model.specs.Board.{Board}
 use Rattle.model.specs.Tests.{countBelow}
 use Rattle.model.specs.Filter.{in?, openOf}
 use Rattle.layout.specs.Places.{causeOf}
+use Rattle.layout.specs.Memory.{State}
 use Rattle.layout.specs.Sizes.{slotsLength}
 
 -- how many slots pass a test: 32 calls of 32 slots, in the order of their bytes
@@ -44,49 +45,42 @@ struckOf B left left′ = slotCount λ c s. in? left c s && closed? B left′ c 
 abbrev pub reopenedOf : Board → List (List ℕ) → List (List ℕ) → ℕ
 reopenedOf B left left′ = slotCount λ c s. closed? B left c s && in? left′ c s
 
+-- the kinds that change slots of the board that stands: put and lift (SCOPE 3.8)
+abbrev pub changesSlots? : Command → Bool
+changesSlots? kind.Board = false
+changesSlots? (kind.Head h) = false
+changesSlots? (kind.Row w) = false
+changesSlots? kind.Post = true
+changesSlots? (kind.Retract n) = true
+
 -- S and R of an accepted command, from the boards before and after
 abbrev pub struckBy : Command → Board → Board → ℕ
-struckBy kind.Board B B′ = 0
-struckBy (kind.Head h) B B′ = 0
-struckBy (kind.Row w) B B′ = 0
-struckBy kind.Post B B′ = struckOf B′ (openOf B) (openOf B′)
-struckBy (kind.Retract n) B B′ = struckOf B′ (openOf B) (openOf B′)
+struckBy c B B′ = cond (changesSlots? c) (struckOf B′ (openOf B) (openOf B′)) 0
 
 abbrev pub reopenedBy : Command → Board → Board → ℕ
-reopenedBy kind.Board B B′ = 0
-reopenedBy (kind.Head h) B B′ = 0
-reopenedBy (kind.Row w) B B′ = 0
-reopenedBy kind.Post B B′ = reopenedOf B′ (openOf B) (openOf B′)
-reopenedBy (kind.Retract n) B B′ = reopenedOf B′ (openOf B) (openOf B′)
-
--- kinds 1, 2 and 3 (SCOPE 3.8): 0, 0, 0
-pub record Silent (r : Report) : Type 0 where
-  pub struck : r .struck ≡ 0
-  pub reopened : r .reopened ≡ 0
-  pub touched : r .touched ≡ 0
-
--- S and R count the slots that changed (SCOPE 3.7)
-pub record Changed (before after : List ℕ) (r : Report) : Type 0 where
-  pub struck : r .struck ≡ struckBetween before after
-  pub reopened : r .reopened ≡ reopenedBetween before after
+reopenedBy c B B′ = cond (changesSlots? c) (reopenedOf B′ (openOf B) (openOf B′)) 0
 
 -- a put reopens nothing, and touches what it strikes (SCOPE 3.9)
-pub record PostReport (before after : List ℕ) (r : Report) : Type 0 where
-  pub changed : Changed before after r
+pub record PostOwn (before after : State) (r : Report) : Type 0 where
   pub none-reopened : r .reopened ≡ 0
   pub touched : r .touched ≡ r .struck
 
 -- a lift strikes nothing, and T lies between R and the number of slots that were struck (SCOPE 3.10)
-pub record RetractReport (before after : List ℕ) (r : Report) : Type 0 where
-  pub changed : Changed before after r
+pub record RetractOwn (before after : State) (r : Report) : Type 0 where
   pub none-struck : r .struck ≡ 0
   pub least : r .reopened ≤ r .touched
-  pub most : r .touched ≤ struckIn before
+  pub most : r .touched ≤ struckIn (before .slots)
 
--- THE REPORT BY KIND, from the slot bytes before and after
-abbrev pub Reports : Command → List ℕ → List ℕ → Report → Type 0
-Reports kind.Board before after r = Silent r
-Reports (kind.Head h) before after r = Silent r
-Reports (kind.Row w) before after r = Silent r
-Reports kind.Post before after r = PostReport before after r
-Reports (kind.Retract n) before after r = RetractReport before after r
+-- what a kind says of its own (SCOPE 3.8 to 3.10): kinds 1, 2 and 3 touch nothing
+abbrev pub ReportsOwn : Command → State → State → Report → Type 0
+ReportsOwn kind.Board before after r = r .touched ≡ 0
+ReportsOwn (kind.Head h) before after r = r .touched ≡ 0
+ReportsOwn (kind.Row w) before after r = r .touched ≡ 0
+ReportsOwn kind.Post before after r = PostOwn before after r
+ReportsOwn (kind.Retract n) before after r = RetractOwn before after r
+
+-- THE REPORT OF A COMMAND, from the states before and after: S and R count the slots that a put or a lift changed (SCOPE 3.7)
+pub record Reports (c : Command) (before after : State) (r : Report) : Type 0 where
+  pub struck : r .struck ≡ cond (changesSlots? c) (struckBetween (before .slots) (after .slots)) 0
+  pub reopened : r .reopened ≡ cond (changesSlots? c) (reopenedBetween (before .slots) (after .slots)) 0
+  pub own : ReportsOwn c before after r

@@ -14,7 +14,7 @@ use Rattle.layout.specs.declared.value.Draft.{Draft}
 use Rattle.model.specs.Board.{Rule, Board, callAt, slotAt, OnBoard, Viable}
 use Rattle.model.specs.Records.{Recorded}
 use Rattle.model.specs.Ledger.{Ledger, NumberedRule, draftOr}
-use Rattle.layout.specs.Places.{causeOf, killerOf}
+use Rattle.layout.specs.Places.{causeOf, killerOf, ownPlace, rowPlace, scopePlace}
 use Rattle.layout.specs.Memory.{State}
 use Rattle.layout.specs.Sizes.{killersLength, rowsLength, slotsLength}
 
@@ -34,7 +34,7 @@ pub record Headed (B : Board) (h : Heads) : Type 0 where
   pub lengths-size : length (h .lengths) ≡ 64
   pub counts : (c : ℕ) → c < 32 → getD (h .counts) c 0 ≡ getD (B .counts) c 0
   pub arity : (p : ℕ) → p < 64 → getD (h .arity) p 0 ≡ length (ruleAt B p .scope)
-  pub scope : (p k : ℕ) → p < 64 → k < 4 → getD (h .scope) (4 * p + k) 0 ≡ callAt (ruleAt B p) k
+  pub scope : (p k : ℕ) → p < 64 → k < 4 → getD (h .scope) (scopePlace p k) 0 ≡ callAt (ruleAt B p) k
   pub lengths : (p : ℕ) → p < 64 → getD (h .lengths) p 0 ≡ length (ruleAt B p .rows)
 
 -- there is no board where the first call has no slots, by the counts that the value holds
@@ -44,7 +44,7 @@ noCalls? counts = eqb (getD counts 0 0) 0
 -- THE ROW BYTES (SCOPE 2.1): the slots of each row; `slotAt` is 255 past the columns, past the rows, and for a rule that is not there
 pub record RowBytes (B : Board) (rows : List ℕ) : Type 0 where
   pub rows-size : length rows ≡ rowsLength
-  pub bytes : (p w k : ℕ) → p < 64 → w < 64 → k < 4 → getD rows (256 * p + 4 * w + k) 0 ≡ slotAt (ruleAt B p) w k
+  pub bytes : (p w k : ℕ) → p < 64 → w < 64 → k < 4 → getD rows (rowPlace p w k) 0 ≡ slotAt (ruleAt B p) w k
 
 -- A BOARD IS STORED in rule heads and three lists of bytes
 pub record Stored (B : Board) (heads : Heads) (rows killers slots : List ℕ) : Type 0 where
@@ -68,7 +68,7 @@ pub record RuleHeld (r : Rule) (rule : RuleData) : Type 0 where
   pub arity : rule .arity ≡ length (r .scope)
   pub scope : (k : ℕ) → k < 4 → getD (rule .scope) k 0 ≡ callAt r k
   pub length-is : rule .length ≡ length (r .rows)
-  pub rows : (w k : ℕ) → w < 64 → k < 4 → getD (rule .rows) (4 * w + k) 0 ≡ slotAt r w k
+  pub rows : (w k : ℕ) → w < 64 → k < 4 → getD (rule .rows) (ownPlace w k) 0 ≡ slotAt r w k
 
 -- A DRAFT IS HELD in the draft's record: the empty one where there is none (SCOPE 2.5)
 pub record Drafted (d : Option NumberedRule) (draft : Draft) : Type 0 where

@@ -1,6 +1,7 @@
--- THE STARRED SAMPLE BOARDS P1 TO P12 (SCOPE 8.1 to 8.12), as commands' bytes, with what is to come of the last command of each.
+-- THE STARRED SAMPLE BOARDS P1 TO P12 (SCOPE 8.1 to 8.12), as commands' bytes, with what is to come of the last command of each, and P4's sheet.
 use mathlib.Core.List.{List, [], _∷_, _++_, map}
 use mathlib.Core.Logic.{_↔_}
+use mathlib.Core.Option.{Option, none, some}
 use mathlib.Core.Path.{_≡_}
 use Prim.Native.Nat.{ℕ, _-_, _/_, _%_}
 use lib.ListN.{length, take, replicate}
@@ -12,9 +13,9 @@ use Rattle.model.specs.Board.{Board, Viable}
 use Rattle.model.specs.Tests.{upFrom}
 use Rattle.model.specs.Filter.{in?, openOf}
 use Rattle.model.specs.Commands.{readAt}
-use Rattle.model.specs.Ledger.{Ledger, Member, fresh, refusal, step, run}
+use Rattle.model.specs.Ledger.{Ledger, fresh, refusal, step, run, lengths, member}
 use Rattle.model.specs.Report.{struckBy, reopenedBy}
-use Rattle.layout.specs.Sizes.{Lent, killersLength, rowsLength, slotsLength}
+use Rattle.model.specs.Sheet.{sheetOf}
 
 -- a command's bytes: fields to the kind's length, the rest 0 or 255
 abbrev pub boardBytes : List ℕ → List ℕ
@@ -35,22 +36,17 @@ postBytes = 4 ∷ []
 abbrev pub retractBytes : ℕ → List ℕ
 retractBytes number = 5 ∷ number ∷ []
 
--- the lengths of what is lent, right
-abbrev pub lengths : Lent
-lengths = record { rows = rowsLength; killers = killersLength; slots = slotsLength }
-
-abbrev pub member : List ℕ → Member
-member bytes = record { bytes = bytes; lent = lengths }
-
 abbrev pub ledgerOf : List (List ℕ) → Ledger
 ledgerOf commands = run fresh (map member commands)
 
--- what is to come of a sample's last command: its refusal or 0, S, R, and the open slots of each call after it
+-- what is to come of a sample's last command: its refusal or 0, S, R, and the open slots of each call after it; and the sheet of all its commands, where the
+-- scope gives it
 pub record Outcome : Type 0 where
   pub refused : ℕ
   pub struck : ℕ
   pub reopened : ℕ
   pub left : List (List ℕ)
+  pub sheet : Option (List ℕ)
 
 pub record Sample : Type 0 where
   pub before : List (List ℕ)
@@ -68,6 +64,15 @@ reopenedByRead (found.Command c) B B′ = reopenedBy c B B′
 reopenedByRead (found.Refused k n) B B′ = 0
 reopenedByRead found.End B B′ = 0
 
+-- all bytes of a sample's commands, one after another; and their sheet, where one is asked for
+abbrev pub flattened : List (List ℕ) → List ℕ
+flattened [] = []
+flattened (x ∷ xs) = x ++ flattened xs
+
+abbrev pub sheetFor : Option (List ℕ) → List (List ℕ) → Option (List ℕ)
+sheetFor none commands = none
+sheetFor (some asked) commands = some (sheetOf (flattened commands))
+
 -- what the definitions give
 abbrev pub ledgerBefore : Sample → Ledger
 ledgerBefore x = ledgerOf (x .before)
@@ -82,6 +87,7 @@ outcomeOf x =
       struck = struckByRead (readAt (x .last) 0 .read) (ledgerBefore x .board) (ledgerLast x .board);
       reopened = reopenedByRead (readAt (x .last) 0 .read) (ledgerBefore x .board) (ledgerLast x .board);
       left = openOf (ledgerLast x .board);
+      sheet = sheetFor (x .outcome .sheet) (x .before ++ (x .last ∷ []));
     }
 
 -- what is shown of a sample: its outcome, and that its open slots are the viable ones
@@ -105,101 +111,34 @@ abbrev pub p3Before : List (List ℕ)
 p3Before = p2Before ++ (postBytes ∷ [])
 
 abbrev pub p1 : Sample
-p1 = record { before = p1Before; last = postBytes; outcome = record { refused = 0; struck = 2; reopened = 0; left = (0 ∷ 1 ∷ []) ∷ (1 ∷ 2 ∷ []) ∷ (0 ∷ 1 ∷ []) ∷ [] } }
+p1 = record { before = p1Before; last = postBytes; outcome = record { refused = 0; struck = 2; reopened = 0; left = (0 ∷ 1 ∷ []) ∷ (1 ∷ 2 ∷ []) ∷ (0 ∷ 1 ∷ []) ∷ []; sheet = none } }
 
 abbrev pub p2 : Sample
-p2 = record { before = p2Before; last = postBytes; outcome = record { refused = 0; struck = 3; reopened = 0; left = (0 ∷ []) ∷ (1 ∷ []) ∷ (0 ∷ []) ∷ [] } }
+p2 = record { before = p2Before; last = postBytes; outcome = record { refused = 0; struck = 3; reopened = 0; left = (0 ∷ []) ∷ (1 ∷ []) ∷ (0 ∷ []) ∷ []; sheet = none } }
 
 abbrev pub p3 : Sample
 p3 =
-    record { before = p3Before; last = retractBytes 0; outcome = record { refused = 0; struck = 0; reopened = 4; left = (0 ∷ 1 ∷ 2 ∷ []) ∷ (0 ∷ 1 ∷ []) ∷ (0 ∷ 1 ∷ []) ∷ [] } }
+    record { before = p3Before; last = retractBytes 0; outcome = record { refused = 0; struck = 0; reopened = 4; left = (0 ∷ 1 ∷ 2 ∷ []) ∷ (0 ∷ 1 ∷ []) ∷ (0 ∷ 1 ∷ []) ∷ []; sheet = none } }
 
--- P4: the worked session (SCOPE 7.9), at its second put, its first lift and its second
+-- P4: the worked session (SCOPE 7.9), at its second put, its first lift and its second, which is its last command and has its sheet
 abbrev pub p4Before : List (List ℕ)
 p4Before =
     boardBytes (2 ∷ 2 ∷ []) ∷ headBytes 0 (0 ∷ 1 ∷ []) ∷ rowBytes (0 ∷ 0 ∷ []) ∷ rowBytes (1 ∷ 1 ∷ []) ∷ postBytes ∷ headBytes 5 (0 ∷ []) ∷ rowBytes (0 ∷ []) ∷ []
 
 abbrev pub p4Post : Sample
-p4Post = record { before = p4Before; last = postBytes; outcome = record { refused = 0; struck = 2; reopened = 0; left = (0 ∷ []) ∷ (0 ∷ []) ∷ [] } }
+p4Post = record { before = p4Before; last = postBytes; outcome = record { refused = 0; struck = 2; reopened = 0; left = (0 ∷ []) ∷ (0 ∷ []) ∷ []; sheet = none } }
 
 abbrev pub p4Retract : Sample
 p4Retract =
     record {
       before = p4Before ++ (postBytes ∷ []);
       last = retractBytes 5;
-      outcome = record { refused = 0; struck = 0; reopened = 2; left = (0 ∷ 1 ∷ []) ∷ (0 ∷ 1 ∷ []) ∷ [] };
+      outcome = record { refused = 0; struck = 0; reopened = 2; left = (0 ∷ 1 ∷ []) ∷ (0 ∷ 1 ∷ []) ∷ []; sheet = none };
     }
-
-abbrev pub p4Again : Sample
-p4Again =
-    record {
-      before = p4Before ++ (postBytes ∷ retractBytes 5 ∷ []);
-      last = retractBytes 5;
-      outcome = record { refused = 17; struck = 0; reopened = 0; left = (0 ∷ 1 ∷ []) ∷ (0 ∷ 1 ∷ []) ∷ [] };
-    }
-
--- P5, P6: a rule without rows on one of two calls, which nothing joins; it is put, and lifted
-abbrev pub p5Before : List (List ℕ)
-p5Before = boardBytes (2 ∷ 2 ∷ []) ∷ headBytes 9 (0 ∷ []) ∷ []
-
-abbrev pub p5 : Sample
-p5 = record { before = p5Before; last = postBytes; outcome = record { refused = 0; struck = 2; reopened = 0; left = [] ∷ (0 ∷ 1 ∷ []) ∷ [] } }
-
-abbrev pub p6 : Sample
-p6 =
-    record {
-      before = p5Before ++ (postBytes ∷ []);
-      last = retractBytes 9;
-      outcome = record { refused = 0; struck = 0; reopened = 2; left = (0 ∷ 1 ∷ []) ∷ (0 ∷ 1 ∷ []) ∷ [] };
-    }
-
--- P7 to P10: count 32 accepted, 33 refused 5; number 63 accepted, 64 refused 7
-abbrev pub p7 : Sample
-p7 = record { before = []; last = boardBytes (32 ∷ []); outcome = record { refused = 0; struck = 0; reopened = 0; left = upFrom 0 32 ∷ [] } }
-
-abbrev pub p8 : Sample
-p8 = record { before = []; last = boardBytes (33 ∷ []); outcome = record { refused = 5; struck = 0; reopened = 0; left = [] } }
-
-abbrev pub p9 : Sample
-p9 = record { before = boardBytes (1 ∷ []) ∷ []; last = headBytes 63 (0 ∷ []); outcome = record { refused = 0; struck = 0; reopened = 0; left = (0 ∷ []) ∷ [] } }
-
-abbrev pub p10 : Sample
-p10 = record { before = boardBytes (1 ∷ []) ∷ []; last = headBytes 64 (0 ∷ []); outcome = record { refused = 7; struck = 0; reopened = 0; left = (0 ∷ []) ∷ [] } }
-
--- P11, P12: the 64th row accepted, the 65th refused 13
-abbrev pub wideRows : ℕ → List (List ℕ)
-wideRows n = boardBytes (9 ∷ 8 ∷ []) ∷ headBytes 0 (0 ∷ 1 ∷ []) ∷ map (λ i. rowBytes (i / 8 ∷ i % 8 ∷ [])) (upFrom 0 n)
-
-abbrev pub p11 : Sample
-p11 =
-    record { before = wideRows 63; last = rowBytes (7 ∷ 7 ∷ []); outcome = record { refused = 0; struck = 0; reopened = 0; left = upFrom 0 9 ∷ upFrom 0 8 ∷ [] } }
-
-abbrev pub p12 : Sample
-p12 =
-    record { before = wideRows 64; last = rowBytes (8 ∷ 0 ∷ []); outcome = record { refused = 13; struck = 0; reopened = 0; left = upFrom 0 9 ∷ upFrom 0 8 ∷ [] } }
-
--- THE LIST
-abbrev pub samples : List Sample
-samples = p1 ∷ p2 ∷ p3 ∷ p4Post ∷ p4Retract ∷ p4Again ∷ p5 ∷ p6 ∷ p7 ∷ p8 ∷ p9 ∷ p10 ∷ p11 ∷ p12 ∷ []
-
--- WHAT REFUSES BYTES FOR THEIR FORM: no byte, a kind past 5, bodies cut short, bytes left over
-abbrev pub forms : List (List ℕ)
-forms = [] ∷ (6 ∷ []) ∷ (5 ∷ []) ∷ take 32 (boardBytes (1 ∷ [])) ∷ (4 ∷ 0 ∷ []) ∷ []
-
-abbrev pub formNumbers : List ℕ
-formNumbers = 3 ∷ 3 ∷ 4 ∷ 4 ∷ 4 ∷ []
-
--- P4's input and output, whole, as bytes
-abbrev pub flattened : List (List ℕ) → List ℕ
-flattened [] = []
-flattened (x ∷ xs) = x ++ flattened xs
-
-abbrev pub p4Input : List ℕ
-p4Input = flattened (p4Before ++ (postBytes ∷ retractBytes 5 ∷ retractBytes 5 ∷ []))
 
 -- a 1 0 0, a 2 0 0, a 3 0 0, a 3 0 0, a 4 0 0, a 2 0 0, a 3 0 0, a 4 2 0, a 5 0 2, r 5 17, c 0 0 1, c 1 0 1, end
-abbrev pub p4Output : List ℕ
-p4Output =
+abbrev pub p4Sheet : List ℕ
+p4Sheet =
     97 ∷ 32 ∷ 49 ∷ 32 ∷ 48 ∷ 32 ∷ 48 ∷ 10
     ∷ 97 ∷ 32 ∷ 50 ∷ 32 ∷ 48 ∷ 32 ∷ 48 ∷ 10
     ∷ 97 ∷ 32 ∷ 51 ∷ 32 ∷ 48 ∷ 32 ∷ 48 ∷ 10
@@ -214,3 +153,62 @@ p4Output =
     ∷ 99 ∷ 32 ∷ 49 ∷ 32 ∷ 48 ∷ 32 ∷ 49 ∷ 10
     ∷ 101 ∷ 110 ∷ 100 ∷ 10
     ∷ []
+
+abbrev pub p4Again : Sample
+p4Again =
+    record {
+      before = p4Before ++ (postBytes ∷ retractBytes 5 ∷ []);
+      last = retractBytes 5;
+      outcome = record { refused = 17; struck = 0; reopened = 0; left = (0 ∷ 1 ∷ []) ∷ (0 ∷ 1 ∷ []) ∷ []; sheet = some p4Sheet };
+    }
+
+-- P5, P6: a rule without rows on one of two calls, which nothing joins; it is put, and lifted
+abbrev pub p5Before : List (List ℕ)
+p5Before = boardBytes (2 ∷ 2 ∷ []) ∷ headBytes 9 (0 ∷ []) ∷ []
+
+abbrev pub p5 : Sample
+p5 = record { before = p5Before; last = postBytes; outcome = record { refused = 0; struck = 2; reopened = 0; left = [] ∷ (0 ∷ 1 ∷ []) ∷ []; sheet = none } }
+
+abbrev pub p6 : Sample
+p6 =
+    record {
+      before = p5Before ++ (postBytes ∷ []);
+      last = retractBytes 9;
+      outcome = record { refused = 0; struck = 0; reopened = 2; left = (0 ∷ 1 ∷ []) ∷ (0 ∷ 1 ∷ []) ∷ []; sheet = none };
+    }
+
+-- P7 to P10: count 32 accepted, 33 refused 5; number 63 accepted, 64 refused 7
+abbrev pub p7 : Sample
+p7 = record { before = []; last = boardBytes (32 ∷ []); outcome = record { refused = 0; struck = 0; reopened = 0; left = upFrom 0 32 ∷ []; sheet = none } }
+
+abbrev pub p8 : Sample
+p8 = record { before = []; last = boardBytes (33 ∷ []); outcome = record { refused = 5; struck = 0; reopened = 0; left = []; sheet = none } }
+
+abbrev pub p9 : Sample
+p9 = record { before = boardBytes (1 ∷ []) ∷ []; last = headBytes 63 (0 ∷ []); outcome = record { refused = 0; struck = 0; reopened = 0; left = (0 ∷ []) ∷ []; sheet = none } }
+
+abbrev pub p10 : Sample
+p10 = record { before = boardBytes (1 ∷ []) ∷ []; last = headBytes 64 (0 ∷ []); outcome = record { refused = 7; struck = 0; reopened = 0; left = (0 ∷ []) ∷ []; sheet = none } }
+
+-- P11, P12: the 64th row accepted, the 65th refused 13
+abbrev pub wideRows : ℕ → List (List ℕ)
+wideRows n = boardBytes (9 ∷ 8 ∷ []) ∷ headBytes 0 (0 ∷ 1 ∷ []) ∷ map (λ i. rowBytes (i / 8 ∷ i % 8 ∷ [])) (upFrom 0 n)
+
+abbrev pub p11 : Sample
+p11 =
+    record { before = wideRows 63; last = rowBytes (7 ∷ 7 ∷ []); outcome = record { refused = 0; struck = 0; reopened = 0; left = upFrom 0 9 ∷ upFrom 0 8 ∷ []; sheet = none } }
+
+abbrev pub p12 : Sample
+p12 =
+    record { before = wideRows 64; last = rowBytes (8 ∷ 0 ∷ []); outcome = record { refused = 13; struck = 0; reopened = 0; left = upFrom 0 9 ∷ upFrom 0 8 ∷ []; sheet = none } }
+
+-- THE LIST
+abbrev pub samples : List Sample
+samples = p1 ∷ p2 ∷ p3 ∷ p4Post ∷ p4Retract ∷ p4Again ∷ p5 ∷ p6 ∷ p7 ∷ p8 ∷ p9 ∷ p10 ∷ p11 ∷ p12 ∷ []
+
+-- WHAT REFUSES BYTES FOR THEIR FORM: no byte, a kind past 5, bodies cut short, bytes left over
+abbrev pub forms : List (List ℕ)
+forms = [] ∷ (6 ∷ []) ∷ (5 ∷ []) ∷ take 32 (boardBytes (1 ∷ [])) ∷ (4 ∷ 0 ∷ []) ∷ []
+
+abbrev pub formNumbers : List ℕ
+formNumbers = 3 ∷ 3 ∷ 4 ∷ 4 ∷ 4 ∷ []

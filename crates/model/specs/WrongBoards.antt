@@ -1,10 +1,10 @@
 -- WRONG BOARDS: what is said of a board to show that the promise turns it away.
 use mathlib.Core.List.{map}
 use Rattle.model.specs.declared.answer.Answer.{Answer}
-use Rattle.model.specs.Ledger.{Member}
+use Rattle.model.specs.Ledger.{Member, member}
 use Rattle.model.specs.Promise.{Promise}
 use Rattle.model.specs.Lists.{Runs, Entered}
-use Rattle.model.specs.Samples.{Sample, member}
+use Rattle.model.specs.Samples.{Sample}
 use Rattle.layout.specs.Memory.{State, freshState}
 
 -- A SAMPLE'S LAST COMMAND, on any state that its other commands reach by the promise, with any answer and state after it that the promise allows

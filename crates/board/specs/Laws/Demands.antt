@@ -5,10 +5,11 @@ use mathlib.Core.List.{List}
 use mathlib.Core.Logic.{_↔_, _⊎_}
 use Prim.Native.Nat.{ℕ, _<_}
 use lib.ListN.{length}
-use Rattle.model.specs.Board.{Rule, Board, InForce, Viable, Alive, Dead, FullPlan, AtLeast}
-use Rattle.model.specs.Records.{Open, Struck, Caused, KillerIn, NoRing, EscapeFromAll}
+use Rattle.model.specs.Board.{Rule, Board, InForce, SelfSupporting, Viable, Alive, Dead, FullPlan, AtLeast}
+use Rattle.model.specs.Records.{Open, Struck, Caused, KillerIn, Ring, NoRing, EscapeFromAll, Recorded}
 use Rattle.model.specs.Ledger.{Member}
-use Rattle.model.specs.Laws.Lists.{demand-3, demand-3-two}
+use Rattle.model.specs.Laws.Theory as theory
+use Rattle.model.specs.Laws.Lists.{demand-3, demand-3-two, runs-represent}
 use Rattle.layout.specs.Places.{causeOf, killerOf}
 use Rattle.layout.specs.Memory.{State}
 use Rattle.board.specs.Lists.{After, boardAfter}
@@ -24,7 +25,14 @@ module _ (ms : List Member) (s : State) (after : After ms s) where
   abbrev killer : ℕ → ℕ → ℕ
   killer = killerOf (s .killers)
 
-  -- no struck slots form a ring (SCOPE 6.12, 1.13)
+  known : Recorded B cause killer
+  known = runs-represent ms s after .1 .stored .recorded
+
+  -- no set at all, with a test or without one, is a ring (SCOPE 6.12, 1.13)
+  pub rings-empty : (E : ℕ → ℕ → Type 0) → Ring B cause killer E → ⊥
+  rings-empty = theory.rings-empty B cause killer known
+
+  -- so no struck slots form one
   pub no-ring : NoRing B cause killer
   no-ring = demand-3 ms s after .ring
 
@@ -45,7 +53,15 @@ module _ (ms : List Member) (s : State) (after : After ms s) where
       → ((killer p w ≡ 255) × Alive B r w) ⊎ (KillerIn B killer (Struck B cause) r p w × Dead B r w)
   killers-struck = demand-3 ms s after .killer
 
-  -- demand 2, after every list (SCOPE 6.11): a slot is open exactly where some self-supporting set has it
+  -- demand 2, after every list (SCOPE 6.11): each open slot has a living row in every rule on its call,
+  pub open-supported : SelfSupporting B (Open B cause)
+  open-supported = known .self
+
+  -- and every self-supporting set, with a test or without one, is open
+  pub supported-open : (A : ℕ → ℕ → Type 0) → SelfSupporting B A → (c t : ℕ) → A c t → Open B cause c t
+  supported-open = theory.largest B cause killer known
+
+  -- so a slot is open exactly where some self-supporting set has it
   pub largest : (c t : ℕ) → Open B cause c t ↔ Viable B c t
   largest = demand-3 ms s after .viable
 

@@ -1,6 +1,6 @@
 -- THE DRAFTS that kinds 2 and 3 leave are those of the stepped ledger. Assumes nothing.
 use mathlib.Core.Path.{_≡_, refl, sym, ap, _∙_}
-use mathlib.Core.Bool.{false, not, _&&_}
+use mathlib.Core.Bool.{Bool, false, not, _&&_}
 use mathlib.Core.List.{List, [], _∷_, _++_}
 use mathlib.Core.Logic.{_⊎_, inl, inr, ⊎-elim}
 use Prim.Native.Nat.{ℕ, zero, suc, _+_, _*_, _<_, _≤_}
@@ -9,9 +9,10 @@ use native.Mathlib.Omega.{arith}
 use lib.ListN.{length, getD, take, set, length-take, length-set, length-append, List·getD-append, List·getD-eq-default}
 use lib.Seq.{getD-take, getD-set-same, getD-set-other, getD-append-seam, length-take-le}
 use lib.Dec.{eqb, leb}
-use borrow.Author.Tests.{eqb-true, le-leb, leb-false, not-false}
+use borrow.Author.Tests.{eqb-true, eq-eqb, ne-eqb, le-leb, leb-false, not-false}
 use Rattle.layout.specs.declared.value.Value.{Value}
 use Rattle.layout.specs.declared.value.RuleData.{RuleData}
+use Rattle.layout.specs.declared.value.Draft.{Draft}
 use Rattle.model.specs.declared.answer.Report.{Report}
 use Rattle.model.specs.declared.command.Head.{Head}
 use Rattle.model.specs.declared.command.Row.{Row}
@@ -19,15 +20,15 @@ use Rattle.model.specs.declared.command.Command.the-variants as kind
 use Rattle.model.specs.Board.{Rule, slotAt}
 use Rattle.model.specs.Commands.{scopeOf, slotsOf}
 use Rattle.model.specs.Ledger.{Ledger, LedgerShape, draftOr, badSpare?, kindConditions}
-use Rattle.model.specs.Report.{Silent}
 use Rattle.model.specs.Representation.{Headed, RuleHeld, Drafted}
 use Rattle.model.specs.Promise.{refusedWith, acceptedWith}
 use Rattle.model.specs.Laws.Tests.{none-passes}
 use Rattle.model.specs.Laws.Refusals.{none-holds, agree-first}
 use Rattle.model.specs.Numbers as refused
 use Rattle.model.specs.Laws.Promised.{promise-refused, promise-accepted}
+use Rattle.command_draft.specs.declared.redraft.Redrafted.{Redrafted}
 use Rattle.command_draft.specs.Fields.{headChecks, addRowChecks}
-use Rattle.command_draft.specs.Drafts.{draftOf, StartsDraft, withSlots, longerRule, withRow, AddsRow}
+use Rattle.command_draft.specs.Drafts.{Redraws, draftOf, StartsDraft, withSlots, longerRule, withRow, AddsRow}
 use Rattle.command_draft.specs.Laws.Fields.{any-default, arity-most, draft-limits, head-checks-agree, row-checks-agree}
 use Rattle.layout.specs.Value.{withDraft}
 use Rattle.layout.specs.Memory.{stateOf}
@@ -48,12 +49,20 @@ spare-same a xs size good k h =
     spare : a ≤ k → getD xs k 255 ≡ getD (take a xs) k 255
     spare le = is-spare le ∙ sym (List·getD-eq-default (take a xs) 255 (omega (arith, length-take a xs)))
 
+-- where nothing is refused the new draft is given back, and else the old one
+module _ {checks : List (Bool × ℕ)} {old new : Draft} where
+  pub redraws-old : (n : ℕ) → n ≡ firstOf checks → (n ≡ 0 → ⊥) → Redraws checks old new (record { number = n; draft = old })
+  redraws-old n e ne = record { number = e; draft = rw (ne-eqb n 0 ne) refl }
+
+  pub redraws-new : (n : ℕ) → n ≡ firstOf checks → n ≡ 0 → Redraws checks old new (record { number = n; draft = new })
+  redraws-new n e z = record { number = e; draft = rw (eq-eqb n 0 z) refl }
+
+  pub new-left : {r : Redrafted} → Redraws checks old new r → r .number ≡ 0 → r .draft ≡ new
+  new-left {r} given z = rw (eq-eqb (r .number) 0 z) at (given .draft)
+
 -- a kind that only writes the draft reports 0, 0, 0
 abbrev quiet : Report
 quiet = record { struck = 0; reopened = 0; touched = 0 }
-
-quiet-is : Silent quiet
-quiet-is = record { struck = refl; reopened = refl; touched = refl }
 
 -- KIND 2
 head-held : (h : Head) → h .arity ≤ 4 → badSpare? (h .arity) (scopeOf h) ≡ false
@@ -85,7 +94,7 @@ module _ (value : Value) (h : Head) where
       let first = e ∙ head-first L shape (is .stored .headed) ns in
       let good = none-holds (kindConditions L (kind.Head h) ns) tt (sym first) in
       let held = head-held h (arity-most (h .arity) (good refused.badArity)) (good refused.spareField) in
-      (first, quiet-is, record { stored = is .stored; drafted = record { number = refl; rule = held } }))
+      (first, record { struck = refl; reopened = refl; own = refl }, record { stored = is .stored; drafted = record { number = refl; rule = held } }))
 
 -- KIND 3: four slots written at a place are read there, and the other bytes stay
 module _ (l : List ℕ) (at : ℕ) (w : Row) where
@@ -196,4 +205,4 @@ module _ (value : Value) (w : Row) where
       let r = draftOr (L .draft) .rule in
       let room = leb-false 64 (length (r .rows)) (good refused.draftFull) in
       let held = longer-held r (value .draft .rule) w (is .drafted .rule) (draft-limits L shape .columns) room (good refused.spareField) in
-      (first, quiet-is, record { stored = is .stored; drafted = record { number = is .drafted .number; rule = held } }))
+      (first, record { struck = refl; reopened = refl; own = refl }, record { stored = is .stored; drafted = record { number = is .drafted .number; rule = held } }))

@@ -6,6 +6,7 @@ use Prim.Native.Nat.{ℕ, zero, suc, _≤_}
 use native.Mathlib.Omega.{arith}
 use lib.ListN.{length}
 use borrow.Author.Tests.{eq-eqb}
+use Rattle.model.specs.declared.answer.Report.{Report}
 use Rattle.model.specs.declared.answer.Answer.{Answer}
 use Rattle.model.specs.declared.command.Command.{Command}
 use Rattle.model.specs.declared.command.Command.the-variants as kind
@@ -15,7 +16,7 @@ use Rattle.model.specs.Commands.{kindOf, readAt}
 use Rattle.model.specs.Ledger.{Ledger, kindConditions, effect, obey, fresh}
 use Rattle.model.specs.Representation.{Represents}
 use Rattle.model.specs.Promise.{numberOf, Obeyed, KindPromise, Promise}
-use Rattle.model.specs.Laws.Answers.{refused-by}
+use Rattle.model.specs.Laws.Answers.{refused-by, never-zero-by}
 use Rattle.model.specs.Laws.Entry.{well-formed, kind-promise}
 use Rattle.command_board.specs.Made.{MakesBoard}
 use Rattle.layout.specs.Bounds.{Sizes}
@@ -35,17 +36,24 @@ pub board-obeys : {before after : State} {c : Command} {ns : List ℕ} {given : 
 board-obeys {before} {after} {c} {ns} {given} is m =
     subst (λ (x : Command). Obeys before x ns given after) (sym is)
     (record {
-      promise = record { refused = m .refused; obeyed = λ L shape rep. obeyed L rep };
+      promise = record {
+        refused = m .refused;
+        never-zero = never-zero-by given (firstOf (kindConditions fresh kind.Board ns)) none-changed (m .made .number) (m .made .values);
+        obeyed = λ L shape rep. obeyed L rep;
+      };
       made = λ e. m .made;
     })
   where
+    none-changed : Report
+    none-changed = record { struck = 0; reopened = 0; touched = 0 }
+
     obeyed : (L : Ledger) → Represents L before → Obeyed L before kind.Board ns given after
     obeyed L rep =
         record {
-          report = record { struck = 0; reopened = 0; touched = 0 };
+          report = none-changed;
           number = m .made .number;
           values = m .made .values;
-          reported = λ e. record { struck = refl; reopened = refl; touched = refl };
+          reported = λ e. record { struck = refl; reopened = refl; own = refl };
           represents = go (firstOf (kindConditions fresh kind.Board ns)) (m .made .number) (m .made .represents);
         }
       where

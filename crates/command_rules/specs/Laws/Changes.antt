@@ -13,7 +13,7 @@ use Rattle.model.specs.declared.command.Command.the-variants as kind
 use Rattle.model.specs.Board.{Board, GoodRule}
 use Rattle.model.specs.Tests.{isNone}
 use Rattle.model.specs.Ledger.{NumberedRule, Ledger, LedgerShape, draftOr, notInForce?, withRule, kindConditions, effect}
-use Rattle.model.specs.Report.{PostReport, RetractReport}
+use Rattle.model.specs.Report.{Reports}
 use Rattle.model.specs.Representation.{Drafted, Represents}
 use Rattle.model.specs.Promise.{KindPromise}
 use Rattle.model.specs.Laws.Fresh.{empty-held}
@@ -25,8 +25,8 @@ use Rattle.command_rules.specs.Checks.{postChecks, retractChecks}
 use Rattle.command_rules.specs.Changes.{postReport, retractReport, stateRules, Posted, Retracted}
 use Rattle.model.specs.Laws.Promised.{promise-refused, promise-accepted}
 use Rattle.command_rules.specs.Laws.Checks.{post-checks-same, retract-checks-same}
-use Rattle.layout.specs.Value.{emptyDraft}
-use Rattle.layout.specs.Memory.{State}
+use Rattle.layout.specs.Value.{emptyDraft, withDraft}
+use Rattle.layout.specs.Memory.{State, stateOf}
 use Rattle.filter_post.specs.Laws.Stored.{post-stored, post-struck, post-reopened}
 use Rattle.filter_retract.specs.Laws.Stored.{retract-stored}
 use Rattle.layout.specs.Sizes.{slotsLength}
@@ -55,13 +55,17 @@ module _ (before : State) (ns : List ℕ) where
   pub post-refused : (n : ℕ) → (n ≡ 0 → ⊥) → n ≡ firstOf checks → KindPromise before kind.Post ns (answer.Refused n) before
   post-refused n ne e = promise-refused before kind.Post ns n ne (λ L shape is. e ∙ post-checks-same L shape before is ns)
 
-  module _ (given : Answer) (after : State) (done : Posted before given after) where
-    post-reports : length (before .slots) ≡ slotsLength → PostReport (before .slots) (after .slots) (postReport (done .struck))
+  -- the draft is posted, and then there is none
+  module _ (given : Answer) (left : State) (done : Posted (before .value .draft) before given left) where
+    abbrev after : State
+    after = stateOf (withDraft (left .value) emptyDraft) (left .rows) (left .killers) (left .slots)
+
+    post-reports : length (before .slots) ≡ slotsLength → Reports kind.Post before after (postReport (done .struck))
     post-reports size =
         record {
-          changed = record { struck = post-struck size (done .done); reopened = sym (post-reopened size (done .done)) };
-          none-reopened = refl;
-          touched = refl;
+          struck = post-struck size (done .done);
+          reopened = sym (post-reopened size (done .done));
+          own = record { none-reopened = refl; touched = refl };
         }
 
     post-represents : (L : Ledger) → LedgerShape L → Represents L before → firstOf (kindConditions L kind.Post ns) ≡ 0 → Represents (effect L kind.Post ns) after
@@ -81,7 +85,7 @@ module _ (before : State) (ns : List ℕ) where
               stored = rw (heads-kept before after (done .counts))
                   (post-stored (L .board) (shape .board) (d .number) (g .0) untaken (d .rule) (g .1)
                   (drafted .rule) (before .value .heads) (before .rows) (before .killers) (before .slots) (is .stored) (stateRules after) (rw number at (done .done)));
-              drafted = rw (done .draft) empty-drafted;
+              drafted = empty-drafted;
             }
 
     pub post-accepted : 0 ≡ firstOf checks → KindPromise before kind.Post ns given after
@@ -109,13 +113,12 @@ module _ (n : ℕ) (before : State) (ns : List ℕ) where
         retract-stored (L .board) (shape .board) n ln (before .value .heads) (before .rows) (before .killers) (before .slots) (is .stored) (rw number at (done .done))
 
     retract-reports : {B : Board} → RetractStored B n (before .value .heads) (stateRules after) (after .killers) (before .slots) (after .slots) (done .reopened) (done .touched)
-        → RetractReport (before .slots) (after .slots) (retractReport (done .reopened) (done .touched))
+        → Reports (kind.Retract n) before after (retractReport (done .reopened) (done .touched))
     retract-reports h =
         record {
-          changed = record { struck = sym (h .none-struck); reopened = sym (h .reopened-is) };
-          none-struck = refl;
-          least = h .least;
-          most = h .most;
+          struck = sym (h .none-struck);
+          reopened = sym (h .reopened-is);
+          own = record { none-struck = refl; least = h .least; most = h .most };
         }
 
     pub retract-accepted : 0 ≡ firstOf (retractChecks (before .value .heads .counts) (before .value .heads .arity) n) → KindPromise before (kind.Retract n) ns given after

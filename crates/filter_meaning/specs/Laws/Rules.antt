@@ -9,8 +9,7 @@ use lib.ListN.{length, getD}
 use Rattle.layout.specs.declared.value.Heads.{Heads}
 use Rattle.model.specs.Board.{Rule, Board, callAt, slotAt, InForce, GoodRule, Shape}
 use Rattle.model.specs.Representation.{ruleOr, ruleAt, Headed, RowBytes}
-use Rattle.model.specs.Laws.Theory.{below-active}
-use Rattle.model.specs.Laws.Change.{number-below, on-range, row-on-board}
+use Rattle.model.specs.Laws.Change.{number-below}
 use Rattle.filter_propagate.specs.Rules.{RuleBytes, Distinct}
 use Rattle.layout.specs.Places.{columnsOf, callOf, slotOf, rowCell}
 use Rattle.tables.specs.Laws.Facts.{lt-or-le}
@@ -72,8 +71,7 @@ module _ (B : Board) (shape : Shape B) (R : RuleBytes) (known : RulesOf B R) whe
       slot : (w k : ℕ) → w < length (r .rows) → k < length (r .scope) → slotOf (R .rows) p w k ≡ slotAt r w k
       slot w k lw lk =
           let e = known .bytes p w k lp (omega (arith, good .few)) (omega (arith, good .most)) ∙ ap (λ (x : Rule). slotAt x w k) is in
-          let on = row-on-board B shape p r f w k lw (below-active B r k lk) in
-          omega (arith, on-range B shape (callAt r k) (slotAt r w k) on .2)
+          omega (arith, good .slots w k lw lk, shape .counts (callAt r k) (good .scope k lk) .1)
 
   -- so the calls of a rule are read as different
   pub distinct : (p : ℕ) → p < 64 → Distinct (R .scope) p (columnsOf (R .arity) p)

@@ -11,7 +11,7 @@ use Rattle.layout.specs.declared.value.Heads.{Heads}
 use Rattle.model.specs.Board.{Rule, Board, callAt, slotAt, OnBoard, InForce, Holds, Shape}
 use Rattle.model.specs.Records.{Open, Sound, Recorded}
 use Rattle.model.specs.Representation.{Headed, Stored}
-use Rattle.model.specs.Laws.Theory.{active-below, below-active, open-viable}
+use Rattle.model.specs.Laws.Theory.{all-live, active-below, below-active, open-viable}
 use Rattle.model.specs.Laws.Change.{stable-recorded, on-range, row-on-board, recorded-stable}
 use Rattle.filter_propagate.specs.Rules.{RuleBytes, Progress, reached}
 use Rattle.filter_propagate.specs.Queue.{Idle}
@@ -64,14 +64,14 @@ module _ (B : Board) (shape : Shape B) (R : RuleBytes) (p : ℕ) (r : Rule) (f :
         alive = λ w lw e k lk h.
             let lw′ : w < length (r .rows) = omega arith in
             let lk′ : k < length (r .scope) = omega arith in
-            let o = st .alive w lw′ e k (below-active B r k lk′) in
+            let o = st .alive w lw′ e k (below-active B r k lk′ (all-live B (callAt r k))) in
             let struck : causeOf slots (callAt r k) (slotAt r w k) < 64 = rw (b .place w k lw′ lk′) at h in
             omega (arith, o .1);
         held = λ k s lk ls o.
             let lk′ : k < length (r .scope) = omega arith in
             let e : causeOf slots (callAt r k) s ≡ 255 = rw (b .call k lk′) at o in
             let on = open-on B slots off (callAt r k) s (b .call-below k lk′) ls e in
-            let x = st .held (callAt r k) s (on, e) (record { column = k; active = below-active B r k lk′; call = refl }) in
+            let x = st .held (callAt r k) s (on, e) (record { column = k; active = below-active B r k lk′ (all-live B (callAt r k)); call = refl }) in
             let lw = x .1 in
             record { row = x .0; inside = omega arith; lives = x .2; holds = b .slot (x .0) k (x .1) lk′ ∙ slot k lk′ s (x .0) (x .3) };
       }

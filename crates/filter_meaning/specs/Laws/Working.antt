@@ -10,7 +10,7 @@ use Rattle.tables.specs.Assign.{Below}
 use Rattle.model.specs.Board.{Rule, Board, callAt, slotAt, OnBoard, InForce, InScope, Holds, Shape}
 use Rattle.model.specs.Records.{Struck, KillerIn, Sound}
 use Rattle.model.specs.Representation.{ruleOr, ruleAt}
-use Rattle.model.specs.Laws.Theory.{active-below, below-active}
+use Rattle.model.specs.Laws.Theory.{all-live, active-below, below-active}
 use Rattle.model.specs.Laws.Change.{strike-sound, kill-sound, on-range, row-on-board}
 use Rattle.filter_propagate.specs.Rules.{RuleBytes, Progress}
 use Rattle.filter_propagate.specs.Rows.{Unsupported}
@@ -39,7 +39,7 @@ module _ (B : Board) (shape : Shape B) (R : RuleBytes) {p r : ℕ} {x y : Progre
       let own : p ≡ q = omega arith in
       let row : k .row ≡ w = omega arith in
       let lk : killerOf (y .killers) q w < length (u .scope) = omega (arith, rw own at (k .column)) in
-      let count = below-active B u (killerOf (y .killers) q w) lk in
+      let count = below-active B u (killerOf (y .killers) q w) lk (all-live B (callAt u (killerOf (y .killers) q w))) in
       record {
         column = count;
         member = (row-on-board B shape q u f w (killerOf (y .killers) q w) lw count, rw (own, row, b .place w (killerOf (y .killers) q w) lw lk) at (k .struck));
@@ -62,7 +62,7 @@ module _ (B : Board) (shape : Shape B) (R : RuleBytes) {p r : ℕ} {x y : Progre
       let range = on-range B shape c s on in
       let call : callAt u k ≡ c = omega (arith, b .call k lk′, range .2) in
       let slot : s ≡ t = omega (arith, range .2) in (
-        record { column = k; active = below-active B u k lk′; call = call },
+        record { column = k; active = below-active B u k lk′ (all-live B (callAt u k)); call = call },
         λ w lw hd e.
             let one = b .one-column (hd .column) k (active-below B u (hd .column) (hd .active)) lk′ (hd .call ∙ sym call) in
             let held : slotAt u w k ≡ s = rw one at (hd .slot) in

@@ -10,7 +10,7 @@ use lib.ListN.{length, getD, replicate, length-replicate}
 use lib.Seq.{getD-set-same, getD-set-other}
 use Rattle.layout.specs.declared.value.Heads.{Heads}
 use Rattle.layout.specs.declared.value.RuleData.{RuleData}
-use Rattle.model.specs.Board.{Rule, Board, InForce, GoodRule, Shape}
+use Rattle.model.specs.Board.{Rule, Board, InForce, live?, GoodRule, Shape}
 use Rattle.model.specs.Records.{Struck, KillerIn, Sound}
 use Rattle.model.specs.Ledger.{withRule}
 use Rattle.model.specs.Report.{struckBetween, reopenedBetween}
@@ -55,6 +55,7 @@ module _ (B : Board) (shape : Shape B) (p : ℕ) (lp : p < 64) (free : getD (B .
 
   -- the records stay sound, where the rule's rows have no killer
   post-sound : (cause killer : ℕ → ℕ → ℕ) → ((w : ℕ) → w < length (r .rows) → killer p w ≡ 255) → Sound B cause killer → Sound (withRule B p (some r)) cause killer
+  unfolding live?
   post-sound cause killer living sound =
       record {
         either = sound .either;
@@ -70,7 +71,7 @@ module _ (B : Board) (shape : Shape B) (p : ℕ) (lp : p < 64) (free : getD (B .
           → (killer q w ≡ 255) ⊎ KillerIn (withRule B p (some r)) killer (Struck (withRule B p (some r)) cause) u q w
       killed q u w lw (inl t) = inl (rw (t .0) (living w (rw (t .1) at lw)))
       killed q u w lw (inr t) =
-          ⊎-elim (λ e. inl e) (λ k. inr (record { column = active-same B (withRule B p (some r)) u u (killer q w) refl (k .column); member = k .member }))
+          ⊎-elim (λ e. inl e) (λ k. inr (record { column = active-same B (withRule B p (some r)) u u (killer q w) refl (λ l. l) (k .column); member = k .member }))
           (sound .killers q u (t .1) w lw)
 
   -- the number has no rows before

@@ -6,10 +6,10 @@ use mathlib.Core.Bool.{Bool, false}
 use Prim.Native.Nat.{ℕ, _+_, _*_, _<_}
 use native.Mathlib.Omega.{arith}
 use lib.ListN.{length, getD}
-use Rattle.model.specs.Board.{Rule, Board, callAt, slotAt, OnBoard, InForce, Active, InScope, Holds, Shape}
+use Rattle.model.specs.Board.{Rule, Board, callAt, slotAt, OnBoard, InForce, InScope, Holds, Shape}
 use Rattle.model.specs.Records.{Struck, KillerIn, RingAt, Recorded}
-use Rattle.model.specs.Laws.Theory.{active-below, below-active, struck-caused, rings-empty}
-use Rattle.model.specs.Laws.Change.{column-below, on-range}
+use Rattle.model.specs.Laws.Theory.{active-below, struck-caused, rings-empty}
+use Rattle.model.specs.Laws.Change.{on-range}
 use Rattle.filter_propagate.specs.Rules.{RuleBytes}
 use Rattle.filter_propagate.specs.Queue.{IsFlagged}
 use Rattle.filter_relax.specs.Reach.{seed, joins}
@@ -47,13 +47,13 @@ module _ (B : Board) (shape : Shape B) (R : RuleBytes) (known : RulesOf B R) (ki
       let b = read-as B shape R known q r (x .1) in
       let lk′ : killerOf killers q w < length (r .scope) = omega (arith, b .columns) in
       let lw′ : w < length (r .rows) = omega (arith, b .rows) in
-      alone q r (x .1) w lw′ (below-active B r (killerOf killers q w) lk′) (rw (b .place w (killerOf killers q w) lw′ lk′) at e) (rec .sound .killers q r (x .1) w lw′)
+      alone q r (x .1) w lw′ lk′ (rw (b .place w (killerOf killers q w) lw′ lk′) at e) (rec .sound .killers q r (x .1) w lw′)
     where
-      alone : (q : ℕ) (r : Rule) → InForce B q r → (w : ℕ) → w < length (r .rows) → Active B r (killerOf killers q w)
+      alone : (q : ℕ) (r : Rule) → InForce B q r → (w : ℕ) → w < length (r .rows) → killerOf killers q w < length (r .scope)
           → causeOf slots (callAt r (killerOf killers q w)) (slotAt r w (killerOf killers q w)) ≡ q
           → (killerOf killers q w ≡ 255) ⊎ KillerIn B (killerOf killers) (Struck B (causeOf slots)) r q w → ⊥
-      alone q r f w lw t e (inl z) = omega (arith, column-below B shape q r f (killerOf killers q w) t)
-      alone q r f w lw t e (inr k) =
+      alone q r f w lw lk e (inl z) = omega (arith, shape .rules q r f .most)
+      alone q r f w lw lk e (inr k) =
           rings-empty B (causeOf slots) (killerOf killers) rec Own
           (record { call = c; slot = s; member = (refl, refl); each = λ d u o. rw (o .0, o .1) ring })
         where
@@ -74,8 +74,8 @@ module _ (B : Board) (shape : Shape B) (R : RuleBytes) (known : RulesOf B R) (ki
                 force = rw e f;
                 row = w;
                 inside = lw;
-                holds = record { column = killerOf killers q w; active = t; call = refl; slot = refl };
-                killed = rw e (record { column = t; member = (refl, refl) });
+                holds = record { column = killerOf killers q w; active = k .column; call = refl; slot = refl };
+                killed = rw e (record { column = k .column; member = (refl, refl) });
               }
 
   module _ (p : ℕ) (lp : p < 64) {t : ℕ} {revived opened : List ℕ} {visited pending : List Bool}
@@ -135,7 +135,8 @@ module _ (B : Board) (shape : Shape B) (R : RuleBytes) (known : RulesOf B R) (ki
         (λ d.
         let z = d .killer in
         let lk : killerOf killers q w < length (r .scope) = let l = z .column in omega (arith, b .columns) in
-        n (record { column = below-active B r (killerOf killers q w) lk; member = rw (b .place w (killerOf killers q w) lw lk) at (z .slot) }))
+        let active = ⊎-elim (λ e. absurd (omega (arith, e, shape .rules q r f .most))) (λ k. k .column) (rec .sound .killers q r f w lw) in
+        n (record { column = active; member = rw (b .place w (killerOf killers q w) lw lk) at (z .slot) }))
 
     -- THEIR REOPENING IS THE MODEL'S, where the killers of the other rules stay
     pub visited-reopen : (emptied : List ℕ) → ((q w : ℕ) → q ≢ p → w < 64 → killerOf emptied q w ≡ killerOf revived q w)

@@ -8,11 +8,11 @@ use native.Mathlib.Omega.{arith}
 use native.Mathlib.Decide.{decLt, ℕ-discrete}
 use lib.ListN.{length, List·getD-eq-default}
 use lib.Seq.{getD-set-same, getD-set-other}
-use Rattle.model.specs.Board.{Rule, Board, callAt, slotAt, OnBoard, InForce, Active, InScope, Holds, Shape, Within}
+use Rattle.model.specs.Board.{Rule, Board, callAt, slotAt, OnBoard, InForce, live?, Active, InScope, Holds, Shape, Within}
 use Rattle.model.specs.Records.{Struck, KillerIn, Grounded, because, Sound, Recorded, Open}
 use Rattle.model.specs.Ledger.{withRule}
 use Rattle.model.specs.Laws.Tests.{none-some}
-use Rattle.model.specs.Laws.Theory.{active-below, active-same, numbered}
+use Rattle.model.specs.Laws.Theory.{all-live, active-below, active-same, numbered}
 use Rattle.model.specs.Changes.{Strikes, Kills, ClosedFor, Reopens, Stable}
 
 -- WHAT STAYS GROUNDED: a set of slots that keep their causes, whose causes stay in force, and whose causes' rows keep their killers, these again in the set
@@ -23,13 +23,16 @@ pub keep-grounded : (B B′ : Board) (cause cause′ killer killer′ : ℕ → 
     → {c s : ℕ} → Grounded B cause killer c s → Keep c s → Grounded B′ cause′ killer′ c s
 keep-grounded B B′ cause cause′ killer killer′ Keep km kk {c} {s} (because r f o k g) keep =
     let m = km c s keep r f in
-    because {c = c} {s = s} r (rw (m .0) (m .1)) (record { column = o .column; active = active-same B B′ r r (o .column) refl (o .active); call = o .call })
-    (λ w h hd. let hb = back w hd in rw (m .0, kk c s keep r f w h hb (k w h hb) .0) (active-same B B′ r r (killer (cause c s) w) refl (k w h hb)))
+    because {c = c} {s = s} r (rw (m .0) (m .1))
+    (record { column = o .column; active = active-same B B′ r r (o .column) refl (λ l. all-live B′ (callAt r (o .column))) (o .active); call = o .call })
+    (λ w h hd. let hb = back w hd in
+    rw (m .0, kk c s keep r f w h hb (k w h hb) .0)
+    (active-same B B′ r r (killer (cause c s) w) refl (λ l. all-live B′ (callAt r (killer (cause c s) w))) (k w h hb)))
     (λ w h hd. let hb = back w hd in let q = kk c s keep r f w h hb (k w h hb) in
     rw (m .0, q .0) (keep-grounded B B′ cause cause′ killer killer′ Keep km kk (g w h hb) (q .1)))
   where
     back : (w : ℕ) → Holds B′ r w c s → Holds B r w c s
-    back w hd = record { column = hd .column; active = active-same B′ B r r (hd .column) refl (hd .active); call = hd .call; slot = hd .slot }
+    back w hd = record { column = hd .column; active = active-same B′ B r r (hd .column) refl (λ l. all-live B (callAt r (hd .column))) (hd .active); call = hd .call; slot = hd .slot }
 
 -- a rule's number is below 64, its columns below 4, so neither is 255
 pub number-below : (B : Board) → Shape B → (p : ℕ) (r : Rule) → InForce B p r → p < 64
@@ -151,7 +154,7 @@ module _ (B : Board) (shape : Shape B) (p : ℕ) (lp : p < 64) (Z : ℕ → ℕ 
       struck q r f w lw lk (inr k) = k .member
 
   pub reopen-sound : Sound (withRule B p none) cause′ killer′
-  unfolding Keep
+  unfolding Keep live?
   reopen-sound =
       record {
         either = λ c s on. ⊎-elim (λ z. inl (re .opened c s on z)) (λ n. rw (re .kept c s on n) (sound .either c s on)) (test c s);
@@ -181,7 +184,7 @@ module _ (B : Board) (shape : Shape B) (p : ℕ) (lp : p < 64) (Z : ℕ → ℕ 
               let e = re .same q r n f w lw (λ u. nz (u .member)) in
               let m = k .member in
               inr (record {
-                column = rw e (active-same B (withRule B p none) r r (killer q w) refl (k .column));
+                column = rw e (active-same B (withRule B p none) r r (killer q w) refl (λ l. l) (k .column));
                 member = rw e (m .0, rw (re .kept (callAt r (killer q w)) (slotAt r w (killer q w)) (m .0) nz) (m .1));
               })
 

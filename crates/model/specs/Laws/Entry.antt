@@ -61,6 +61,7 @@ refused-promise s bytes (suc n) t e =
     record {
       early = λ m d. sym e ∙ d;
       refused = λ m d. refl;
+      never-zero = λ d. let z : suc n ≡ 0 = cc in absurd (omega arith);
       made = λ d. absurd (omega (arith, e, d));
       answered = λ L shape rep. answered L rep;
     }
@@ -125,6 +126,7 @@ module _ (s : State) (bytes : List ℕ) (c : Command) (given : Answer) (after : 
       record {
         early = λ m d. absurd (omega (arith, passes, d));
         refused = promise .refused;
+        never-zero = promise .never-zero;
         made = λ d e. made (let same : c ≡ kind.Board = cc in same);
         answered = λ L shape rep. answered L (promise .obeyed L shape rep);
       }
@@ -135,7 +137,7 @@ module _ (s : State) (bytes : List ℕ) (c : Command) (given : Answer) (after : 
             report = o .report;
             number = o .number ∙ sym (own L);
             values = o .values ∙ sym (ap (λ (m : ℕ). valuesAt m (reportValues (o .report))) (own L));
-            reported = λ e. subst (λ (r : Read). ReportsOf r (s .slots) (after .slots) (o .report)) (sym is) (o .reported (sym (own L) ∙ e));
+            reported = λ e. subst (λ (r : Read). ReportsOf r s after (o .report)) (sym is) (o .reported (sym (own L) ∙ e));
             represents = subst (λ (K : Ledger). Represents K after) (sym (stepped L)) (o .represents);
           }
         where

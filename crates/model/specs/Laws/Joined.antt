@@ -9,10 +9,10 @@ use Prim.Native.Nat.{ℕ, zero, suc}
 use native.Mathlib.Omega.{arith}
 use lib.ListN.{getD, set}
 use lib.Seq.{getD-set-other}
-use Rattle.model.specs.Board.{Rule, Board, callAt, slotAt, InForce, Active, InScope, Supported, SelfSupporting, Passing, Viable}
+use Rattle.model.specs.Board.{Rule, Board, callAt, slotAt, InForce, live?, Active, InScope, Supported, SelfSupporting, Passing, Viable}
 use Rattle.model.specs.Filter.{inScope?}
 use Rattle.model.specs.Laws.Tests.{T→, →T, none-some}
-use Rattle.model.specs.Laws.Theory.{active-same}
+use Rattle.model.specs.Laws.Theory.{all-live, active-same}
 use Rattle.model.specs.Laws.Filter.{viable-in-any, onCall→, →onCall}
 use Rattle.model.specs.Joined.{Joined, unless, offCall, withoutCall, by, itself}
 
@@ -48,7 +48,7 @@ counts-off B c d n = getD-set-other (B .counts) c d 0 0 n
 -- what a rule asks is the same on both boards
 module _ (B B′ : Board) where
   pub on-call-along : {r : Rule} {c : ℕ} → InScope B r c → InScope B′ r c
-  on-call-along {r} o = record { column = o .column; active = active-same B B′ r r (o .column) refl (o .active); call = o .call }
+  on-call-along {r} o = record { column = o .column; active = active-same B B′ r r (o .column) refl (λ l. all-live B′ (callAt r (o .column))) (o .active); call = o .call }
 
   pub supported-along : (A C : ℕ → ℕ → Type 0) (r : Rule) (c s : ℕ) → (u : Supported B A r c s)
       → ((k : ℕ) → Active B r k → A (callAt r k) (slotAt r (u .row) k) → C (callAt r k) (slotAt r (u .row) k)) → Supported B′ C r c s
@@ -57,8 +57,8 @@ module _ (B B′ : Board) where
       record {
         row = u .row;
         inside = u .inside;
-        holds = record { column = h .column; active = active-same B B′ r r (h .column) refl (h .active); call = h .call; slot = h .slot };
-        within = λ k t. let b = active-same B′ B r r k refl t in to k b (u .within k b);
+        holds = record { column = h .column; active = active-same B B′ r r (h .column) refl (λ l. all-live B′ (callAt r (h .column))) (h .active); call = h .call; slot = h .slot };
+        within = λ k t. let b = active-same B′ B r r k refl (λ l. all-live B (callAt r k)) t in to k b (u .within k b);
       }
 
 module _ (B : Board) (c : ℕ) where
@@ -83,14 +83,14 @@ module _ (B : Board) (c : ℕ) where
       }
 
   put-back : (A : ℕ → ℕ → Type 0) → SelfSupporting (withoutCall B c) A → SelfSupporting B (Apart A)
-  unfolding Apart
+  unfolding Apart live?
   put-back A self =
       record {
         slots = λ d s a. rw (counts-off B c d (λ e. a .1 (rw e itself))) at (self .slots d s (a .0));
         support = λ d s a p r f o.
             let g = off-keeps B c (B .rules) p r f (λ oc. a .1 (by p r itself f oc o)) in
             supported-along (withoutCall B c) B A (λ d s. A d s × (Joined B c d → ⊥)) r d s (self .support d s (a .0) p r g (on-call-along B (withoutCall B c) o))
-            (λ k t x. (x, spread p r d k f o (a .1) (active-same (withoutCall B c) B r r k refl t)));
+            (λ k t x. (x, spread p r d k f o (a .1) (active-same (withoutCall B c) B r r k refl (λ l. l) t)));
       }
 
   -- THE SLOTS OF A CALL THAT NO CHAIN OF RULES JOINS to c are viable with it and without it alike

@@ -21,6 +21,7 @@ module _ (before : State) (c : Command) (ns : List ℕ) where
   promise-refused (suc n) ne check =
       record {
         refused = λ m e. refl;
+        never-zero = λ e. let z : suc n ≡ 0 = cc in absurd (omega arith);
         obeyed = λ L shape is.
             let e = check L shape is in
             record {
@@ -35,11 +36,12 @@ module _ (before : State) (c : Command) (ns : List ℕ) where
   -- accepted: on every such ledger none holds, the report is right, and the state after is the stepped ledger's
   pub promise-accepted : (after : State) (report : Report)
       → ((L : Ledger) → LedgerShape L → Represents L before
-      → (0 ≡ firstOf (kindConditions L c ns)) × Reports c (before .slots) (after .slots) report × Represents (effect L c ns) after)
+      → (0 ≡ firstOf (kindConditions L c ns)) × Reports c before after report × Represents (effect L c ns) after)
       → KindPromise before c ns (answer.Accepted report) after
   promise-accepted after report check =
       record {
         refused = λ m e. let z : _≡_ {A = ℕ} 0 1 = cc in absurd (omega arith);
+        never-zero = λ e. let z : _≡_ {A = ℕ} 0 1 = cc in absurd (omega arith);
         obeyed = λ L shape is.
             let p = check L shape is in
             record { report = report; number = p .0; values = rw (← (p .0)) refl; reported = λ z. p .1; represents = rw (← (p .0)) (p .2) };

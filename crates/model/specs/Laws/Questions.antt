@@ -11,22 +11,23 @@ use native.Mathlib.Nat.{eq-or-lt-of-le, le-of-suc-le-suc}
 use lib.ListN.{length, getD, drop, length-drop, List·getD-eq-default}
 use lib.Seq.{getD-take, getD-drop, length-take-le}
 use lib.Dec.{T, eqb, ltb, leb, eqb→eq}
-use borrow.Author.Tests.{ltb-false, leb-false, lt-ltb, le-ltb, le-leb, eq-eqb, ne-eqb}
+use borrow.Author.Tests.{eqb-true, ltb-false, leb-false, lt-ltb, le-ltb, le-leb, eq-eqb, ne-eqb}
 use Rattle.model.specs.declared.answer.SlotState.the-variants as state
 use Rattle.model.specs.declared.answer.RowState.the-variants as row
 use Rattle.model.specs.declared.answer.Support.the-variants as support
-use Rattle.model.specs.Board.{Rule, Board, callAt, slotAt, OnBoard, InForce, Alive, Dead, Shape}
+use Rattle.model.specs.Board.{Rule, Board, callAt, slotAt, OnBoard, InForce, Viable, Alive, Dead, Shape}
 use Rattle.model.specs.Records.{Struck, Caused, KillerIn, Recorded}
 use Rattle.model.specs.Tests.{some?, countBelow, first, isNone}
 use Rattle.model.specs.Ledger.{Ledger, LedgerShape, noBoard?, notInForce?}
 use Rattle.model.specs.Report.{open?}
 use Rattle.model.specs.Promise.{valuesAt}
 use Rattle.model.specs.Representation.{ruleOr, ruleAt, noCalls?, Represents}
-use Rattle.model.specs.Questions.{callConditions, slotConditions, rowConditions, supportConditions, slotsHeld, callChecks, slotChecks, rowChecks, supportChecks, maskOf, slotsNumber, slotsValues, slotsBy, slotsAnswer, SlotsPromise, stateNumber, stateBy, stateAnswer, StateMeans, StatePromise, rowNumber, rowBy, rowAnswer, RowMeans, RowPromise, bytesBy, rowBytesAnswer, RowBytesPromise, supportNumber, supports?, foundRow, supportBy, supportAnswer, SupportMeans, SupportPromise}
-use Rattle.model.specs.Laws.Tests.{or-false, and→, →and, →T, T→, →some, →eqb, none-passes}
+use Rattle.model.specs.Questions.{callConditions, slotConditions, rowConditions, supportConditions, slotsHeld, callChecks, slotChecks, rowChecks, supportChecks, maskOf, slotsNumber, slotsValues, bit?, slotsBy, slotsAnswer, SlotsMeans, SlotsPromise, stateNumber, stateValues, stateBy, stateAnswer, StateMeans, StatePromise, rowNumber, rowValues, rowBy, rowAnswer, RowMeans, RowPromise, bytesBy, rowBytesAnswer, RowBytesPromise, supportNumber, supportValues, supports?, foundRow, foundValue, supportBy, supportAnswer, SupportMeans, SupportPromise}
+use Rattle.model.specs.Laws.Tests.{or-false, and→, →and, →T, T→, →some, →eqb, none-passes, count-same}
 use Rattle.model.specs.Laws.Theory.{open-viable, struck-caused, row-records}
 use Rattle.model.specs.Laws.Refusals.{none-holds}
-use Rattle.model.specs.Laws.Change.{column-below}
+use Rattle.model.specs.Laws.Change.{column-below, on-range}
+use Rattle.model.specs.Laws.Masks.{bit-below, bit-past}
 use Rattle.model.specs.Laws.Heads.{no-columns, counts-held, no-call, no-calls}
 use Rattle.layout.specs.Places.{causeOf, columnsOf, killerOf, rowsOf}
 use Rattle.layout.specs.Memory.{State, lentOf}
@@ -163,7 +164,11 @@ module _ (L : Ledger) (shape : LedgerShape L) (s : State) (rep : Represents L s)
           let few = limits p .0 in
           (⊎-elim (λ h. h) (λ le. absurd (omega (arith, ap (λ (r : Rule). length (r .scope)) (no-rule p le)))) (lt-or-le p 64), omega arith)
 
-  -- WHAT THE CONDITIONS THAT DO NOT HOLD GIVE: a slot of the board; a rule in force with that row, or with that column
+  -- WHAT THE CONDITIONS THAT DO NOT HOLD GIVE: a call, or a slot of the board; a rule in force with that row, or with that column
+  call-there : (c : ℕ) → firstOf (callConditions L (lentOf s) c) ≡ 0 → c < 32
+  call-there c e =
+      omega (arith, shape .board .calls, leb-false (length (L .board .counts)) c (none-holds (callConditions L (lentOf s) c) tt e refused.noCall))
+
   slot-on-board : (c t : ℕ) → firstOf (slotConditions L (lentOf s) c t) ≡ 0 → OnBoard (L .board) c t
   slot-on-board c t e = leb-false (getD (L .board .counts) c 0) t (none-holds (slotConditions L (lentOf s) c t) tt e refused.noSlot)
 
@@ -190,6 +195,27 @@ module _ (L : Ledger) (shape : LedgerShape L) (s : State) (rep : Represents L s)
         omega (arith, ltb-false 63 p (clear refused.badNumber)),
         in-force p (clear refused.notInForce),
         leb-false (length (ruleAt (L .board) p .scope)) k (clear refused.noColumn),
+      )
+
+  -- A MASK'S BIT is 1 exactly where the slot is viable
+  slots-means : (c : ℕ) → c < 32 → SlotsMeans (L .board) c (slotsBy 0 (s .slots) c)
+  slots-means c lc = (
+    λ t. ⊎-elim (below t) (past t) (lt-or-le t 32),
+    count-same 32 (open? (s .slots) c) (bit? (maskOf 32 (open? (s .slots) c))) (λ t lt. sym (bit-below 32 (open? (s .slots) c) t lt)),
+  )
+    where
+      below : (t : ℕ) → t < 32 → T (bit? (maskOf 32 (open? (s .slots) c)) t) ↔ Viable (L .board) c t
+      below t lt =
+          let e = bit-below 32 (open? (s .slots) c) t lt in
+          let byte = rep .stored .viable c t lc lt in (
+            λ h. byte .0 (eqb→eq (causeOf (s .slots) c t) 255 (subst (λ (b : Bool). T b) e h)),
+            λ v. subst (λ (b : Bool). T b) (sym e) (→eqb (causeOf (s .slots) c t) 255 (byte .1 v)),
+          )
+
+      past : (t : ℕ) → 32 ≤ t → T (bit? (maskOf 32 (open? (s .slots) c)) t) ↔ Viable (L .board) c t
+      past t le = (
+        λ h. absurd (subst (λ (b : Bool). T b) (bit-past 32 (open? (s .slots) c) t le) h),
+        λ v. absurd (omega (arith, on-range (L .board) (shape .board) c t (v .self .slots c t (v .has)) .2)),
       )
 
   -- A ROW SUPPORTS a slot in a column exactly where it is alive and has it there
@@ -249,11 +275,35 @@ row-number zero byte = go (eqb byte 255)
     go true = refl
     go false = refl
 
+state-values : (n byte : ℕ) → stateValues (stateBy n byte) ≡ valuesAt n (byte ∷ [])
+state-values (suc n) byte = refl
+state-values zero byte = go (eqb byte 255) refl
+  where
+    go : (b : Bool) → eqb byte 255 ≡ b → stateValues (cond b state.Open (state.Struck byte)) ≡ byte ∷ []
+    go true e = ap (λ (x : ℕ). x ∷ []) (sym (eqb-true byte 255 e))
+    go false e = refl
+
+row-values : (n byte : ℕ) → rowValues (rowBy n byte) ≡ valuesAt n (byte ∷ [])
+row-values (suc n) byte = refl
+row-values zero byte = go (eqb byte 255) refl
+  where
+    go : (b : Bool) → eqb byte 255 ≡ b → rowValues (cond b row.Alive (row.Killed byte)) ≡ byte ∷ []
+    go true e = ap (λ (x : ℕ). x ∷ []) (sym (eqb-true byte 255 e))
+    go false e = refl
+
 support-number : (n m w : ℕ) → supportNumber (supportBy n m w) ≡ n
 support-number (suc n) m w = refl
 support-number zero m w = go (ltb w m)
   where
     go : (b : Bool) → supportNumber (cond b (support.Row w) support.Nothing) ≡ 0
+    go true = refl
+    go false = refl
+
+support-values : (n m w : ℕ) → supportValues (supportBy n m w) ≡ valuesAt n (foundValue m w ∷ [])
+support-values (suc n) m w = refl
+support-values zero m w = go (ltb w m)
+  where
+    go : (b : Bool) → supportValues (cond b (support.Row w) support.Nothing) ≡ cond b w 255 ∷ []
     go true = refl
     go false = refl
 
@@ -267,6 +317,7 @@ slots-promise s c =
             number = slots-number (firstOf (callChecks s c)) (s .slots) c ∙ e;
             values = slots-values (firstOf (callChecks s c)) (s .slots) c
                 ∙ ap (λ (n : ℕ). valuesAt n (maskOf 32 (open? (s .slots) c) ∷ countBelow 32 (open? (s .slots) c) ∷ [])) e;
+            means = λ z. subst (λ (n : ℕ). SlotsMeans (L .board) c (slotsBy n (s .slots) c)) (sym (e ∙ z)) (slots-means L shape s rep c (call-there L shape s rep c z));
           };
     }
 
@@ -277,6 +328,7 @@ state-promise s c t =
       answered = λ L shape rep. let e = ap firstOf (slot-checks L shape s rep c t) in
           record {
             number = state-number (firstOf (slotChecks s c t)) (causeOf (s .slots) c t) ∙ e;
+            values = state-values (firstOf (slotChecks s c t)) (causeOf (s .slots) c t) ∙ ap (λ (n : ℕ). valuesAt n (causeOf (s .slots) c t ∷ [])) e;
             means = λ z. subst (λ (n : ℕ). StateMeans (L .board) c t (stateBy n (causeOf (s .slots) c t))) (sym (e ∙ z))
                 (state-means (L .board) (causeOf (s .slots)) (killerOf (s .killers)) (rep .stored .recorded) c t (slot-on-board L shape s rep c t z));
           };
@@ -289,6 +341,7 @@ row-promise s p w =
       answered = λ L shape rep. let e = ap firstOf (row-checks L shape s rep p w) in
           record {
             number = row-number (firstOf (rowChecks s p w)) (killerOf (s .killers) p w) ∙ e;
+            values = row-values (firstOf (rowChecks s p w)) (killerOf (s .killers) p w) ∙ ap (λ (n : ℕ). valuesAt n (killerOf (s .killers) p w ∷ [])) e;
             means = λ z. let there = row-there L shape s rep p w z in
                 subst (λ (n : ℕ). RowMeans (L .board) (ruleAt (L .board) p) w (rowBy n (killerOf (s .killers) p w))) (sym (e ∙ z))
                 (row-means (L .board) (causeOf (s .slots)) (killerOf (s .killers)) (rep .stored .recorded) (shape .board) p (ruleAt (L .board) p) (there .1) w (there .2));
@@ -320,6 +373,9 @@ support-promise s p k t =
       answered = λ L shape rep. let e = support-checks L shape s rep p k t in
           record {
             number = support-number (firstOf (supportChecks s p k t)) (rowsOf (s .value .heads .lengths) p) (first (rowsOf (s .value .heads .lengths) p) (supports? s p k t)) ∙ e;
+            values = support-values (firstOf (supportChecks s p k t)) (rowsOf (s .value .heads .lengths) p) (first (rowsOf (s .value .heads .lengths) p) (supports? s p k t))
+                ∙ ap (λ (m : ℕ). valuesAt (firstOf (supportChecks s p k t)) (foundValue m (first m (supports? s p k t)) ∷ [])) (rows-held L shape s rep p)
+                ∙ ap (λ (n : ℕ). valuesAt n (foundValue (length (ruleAt (L .board) p .rows)) (first (length (ruleAt (L .board) p .rows)) (supports? s p k t)) ∷ [])) e;
             means = λ z. let there = column-there L shape s rep p k t z in
                 subst (λ (n : ℕ). SupportMeans (L .board) (ruleAt (L .board) p) k t (supportBy n (rowsOf (s .value .heads .lengths) p) (first (rowsOf (s .value .heads .lengths) p) (supports? s p k t))))
                 (sym (e ∙ z))

@@ -1,10 +1,9 @@
 -- THE STARRED BOARDS FOLLOW FROM THE DEFINITIONS: one computation over the list of them, and the filter's law. Assumes nothing.
 use mathlib.Core.Path.{_≡_, refl, ap}
 use mathlib.Core.List.{List, [], _∷_, map}
-use Rattle.model.specs.Board.{active?}
-use Rattle.model.specs.Ledger.{fresh, refusal}
-use Rattle.model.specs.Sheet.{sheetOf}
-use Rattle.model.specs.Samples.{Outcome, Sample, outcomeOf, ledgerLast, Right, AllRight, samples, lengths, forms, formNumbers, p4Input, p4Output}
+use Rattle.model.specs.Board.{live?, active?}
+use Rattle.model.specs.Ledger.{fresh, refusal, lengths}
+use Rattle.model.specs.Samples.{Outcome, Sample, outcomeOf, ledgerLast, Right, AllRight, samples, forms, formNumbers}
 use Rattle.model.specs.Laws.Filter.{found-viable}
 
 right : (x : Sample) → outcomeOf x ≡ x .outcome → Right x
@@ -15,13 +14,8 @@ all-right [] e = tt
 all-right (x ∷ xs) e = (right x (cc), all-right xs (cc))
 
 pub samples-right : AllRight samples
-unfolding active?
+unfolding active? live?
 samples-right = all-right samples refl
 
 pub forms-refused : map (refusal fresh lengths) forms ≡ formNumbers
 forms-refused = refl
-
--- the worked session's sheet, byte for byte
-pub p4-sheet : sheetOf p4Input ≡ p4Output
-unfolding active?
-p4-sheet = refl

@@ -8,24 +8,33 @@ use Prim.Native.Nat.{ℕ, _<_, _≤_}
 use native.Mathlib.Omega.{arith}
 use native.Mathlib.Decide.{decLt}
 use lib.ListN.{length, getD, List·getD-eq-default}
-use lib.Dec.{T, ltb→lt, lt→ltb}
-use Rattle.model.specs.Board.{Rule, Board, callAt, slotAt, OnBoard, InForce, active?, Active, InScope, Holds, Supported, SelfSupporting, Passing, Viable, Alive, Dead, Same, AtLeast, FullPlan, Shape}
+use lib.Dec.{T, ltb, ltb→lt, lt→ltb}
+use Rattle.model.specs.Board.{Rule, Board, callAt, slotAt, OnBoard, InForce, live?, Live, active?, Active, InScope, Holds, Supported, SelfSupporting, Passing, Viable, Alive, Dead, Same, AtLeast, FullPlan, Shape}
 use Rattle.model.specs.Records.{Open, Struck, Caused, KillerIn, RingAt, Ring, NoRing, Escape, EscapeFromAll, Grounded, because, Recorded}
-use Rattle.model.specs.Laws.Tests.{T?, <?, none-some}
+use Rattle.model.specs.Laws.Tests.{T?, <?, none-some, and→, →and}
 use Rattle.tables.specs.Laws.Facts.{eq-or-ne, find-below, decide-both}
 
--- LAWS OF THE COLUMNS THAT COUNT. The rest of the theory goes by these
+-- today every call takes part
+pub all-live : (B : Board) (c : ℕ) → Live B c
+unfolding live?
+all-live B c = tt
+
+-- LAWS OF THE ACTIVE COLUMNS. The rest of the theory goes by these
 pub active-below : (B : Board) (r : Rule) (k : ℕ) → Active B r k → k < length (r .scope)
 unfolding active?
-active-below B r k t = ltb→lt k (length (r .scope)) t
+active-below B r k t = ltb→lt k (length (r .scope)) (and→ (ltb k (length (r .scope))) (live? B (callAt r k)) t .0)
 
-pub below-active : (B : Board) (r : Rule) (k : ℕ) → k < length (r .scope) → Active B r k
+pub active-live : (B : Board) (r : Rule) (k : ℕ) → Active B r k → Live B (callAt r k)
 unfolding active?
-below-active B r k h = lt→ltb k (length (r .scope)) h
+active-live B r k t = and→ (ltb k (length (r .scope))) (live? B (callAt r k)) t .1
 
--- a column counts on two boards alike, and for two rules with the same calls
-pub active-same : (B B′ : Board) (r r′ : Rule) (k : ℕ) → r .scope ≡ r′ .scope → Active B r k → Active B′ r′ k
-active-same B B′ r r′ k e t = below-active B′ r′ k (rw e at (active-below B r k t))
+pub below-active : (B : Board) (r : Rule) (k : ℕ) → k < length (r .scope) → Live B (callAt r k) → Active B r k
+unfolding active?
+below-active B r k h l = →and (ltb k (length (r .scope))) (live? B (callAt r k)) (lt→ltb k (length (r .scope)) h) l
+
+-- a column that is active on a board is active on one where its call takes part, for a rule with the same calls
+pub active-same : (B B′ : Board) (r r′ : Rule) (k : ℕ) → r .scope ≡ r′ .scope → (Live B (callAt r k) → Live B′ (callAt r′ k)) → Active B r k → Active B′ r′ k
+active-same B B′ r r′ k e to t = below-active B′ r′ k (rw e at (active-below B r k t)) (to (active-live B r k t))
 
 -- two rules in force under one number are one
 pub one-rule : (B : Board) (p : ℕ) {r r′ : Rule} → InForce B p r → InForce B p r′ → r ≡ r′
@@ -199,16 +208,16 @@ supported-same B B′ A r r′ same c s u =
       inside = b .1;
       holds = record {
         column = h .column;
-        active = active-same B′ B r′ r (h .column) (sym (same .scope)) (h .active);
+        active = active-same B′ B r′ r (h .column) (sym (same .scope)) (λ l. all-live B (callAt r (h .column))) (h .active);
         call = rw (same .scope) (h .call);
         slot = rw (← b .2) (h .slot);
       };
-      within = λ k t. rw (same .scope, ← b .2) (u .within k (active-same B B′ r r′ k (same .scope) t));
+      within = λ k t. rw (same .scope, ← b .2) (u .within k (active-same B B′ r r′ k (same .scope) (λ l. all-live B′ (callAt r′ k)) t));
     }
 
 on-same : (B B′ : Board) {r r′ : Rule} {c : ℕ} → Same r r′ → InScope B r c → InScope B′ r′ c
 on-same B B′ {r} {r′} same o =
-    record { column = o .column; active = active-same B B′ r r′ (o .column) (same .scope) (o .active); call = rw (same .scope) at (o .call) }
+    record { column = o .column; active = active-same B B′ r r′ (o .column) (same .scope) (λ l. all-live B′ (callAt r′ (o .column))) (o .active); call = rw (same .scope) at (o .call) }
 
 pub viable-mono : (B B′ : Board) → AtLeast B B′ → (c s : ℕ) → Viable B′ c s → Viable B c s
 viable-mono B B′ more c s v =
@@ -221,6 +230,14 @@ viable-mono B B′ more c s v =
             supported-same B B′ (Passing (v .set)) r (m .rule) (m .same) c s (v .self .support c s a (m .number) (m .rule) (m .force) (on-same B B′ (m .same) o));
       };
     }
+
+-- A RULE WITHOUT ROWS ADMITS NOTHING (SCOPE 1.3): while it is in force no slot of its calls is viable, and there is no full plan
+module _ (B : Board) (p : ℕ) (r : Rule) (force : InForce B p r) (none-there : length (r .rows) ≡ 0) where
+  pub no-row-closed : (c s : ℕ) → InScope B r c → Viable B c s → ⊥
+  no-row-closed c s on v = omega (arith, v .self .support c s (v .has) p r force on .inside)
+
+  pub no-row-no-plan : (plan : ℕ → ℕ) → FullPlan B plan → ⊥
+  no-row-no-plan plan full = omega (arith, full .keeps p r force .1)
 
 -- EVERY SLOT OF A CALL WITHOUT RULES IS OPEN (SCOPE 1.8)
 pub free-call : (B : Board) (c : ℕ) → ((p : ℕ) (r : Rule) → InForce B p r → InScope B r c → ⊥) → (s : ℕ) → OnBoard B c s → Viable B c s

@@ -14,17 +14,17 @@ use Rattle.model.specs.declared.answer.Answer.{Answer}
 use Rattle.model.specs.declared.answer.Answer.the-variants as answer
 use Rattle.model.specs.declared.answer.OpenSlots.{OpenSlots}
 use Rattle.model.specs.declared.answer.Support.the-variants as support
-use Rattle.model.specs.Board.{Rule, Board, callAt, slotAt, OnBoard, active?}
+use Rattle.model.specs.Board.{Rule, Board, callAt, slotAt, OnBoard, live?, active?}
 use Rattle.model.specs.Records.{Struck, Grounded, because}
 use Rattle.model.specs.Tests.{countBelow}
 use Rattle.model.specs.Filter.{in?, inScope?, all?, openOf}
 use Rattle.model.specs.Commands.{readAt}
-use Rattle.model.specs.Ledger.{LedgerShape, refusal, step}
+use Rattle.model.specs.Ledger.{LedgerShape, refusal, step, member, lengths}
 use Rattle.model.specs.Report.{open?}
 use Rattle.model.specs.Representation.{Represents, ruleAt}
 use Rattle.model.specs.Promise.{Answered, ReportsOf, valuesAt, reportValues}
 use Rattle.model.specs.Questions.{maskOf, callConditions, slotsValues, SlotsPromise, supportConditions, SupportPromise}
-use Rattle.model.specs.Samples.{Outcome, Sample, Right, member, lengths, ledgerBefore, ledgerLast, p1, p2, p3, p4Retract, p5, p6}
+use Rattle.model.specs.Samples.{Outcome, Sample, Right, ledgerBefore, ledgerLast, p1, p2, p3, p4Retract, p5, p6}
 use Rattle.model.specs.Laws.Tests.{→and}
 use Rattle.model.specs.Laws.Theory.{one-rule, numbered}
 use Rattle.model.specs.Laws.Filter.{found-viable, within→, →onCall, all→}
@@ -32,6 +32,7 @@ use Rattle.model.specs.Laws.Lists.{IsOf, runs-represent}
 use Rattle.model.specs.Laws.Answers.{accepted-by}
 use Rattle.model.specs.Laws.Shapes.{shape-step}
 use Rattle.model.specs.Laws.Samples.{samples-right}
+use Rattle.model.specs.Laws.Masks.{mask-same}
 use Rattle.model.specs.Laws.Reports.{open-in, struck-between, reopened-between}
 use Rattle.layout.specs.Places.{causeOf, killerOf}
 use Rattle.layout.specs.Memory.{State, lentOf}
@@ -49,11 +50,6 @@ differ-not true true t e = t
 differ-not true false t e = true≢false e
 differ-not false true t e = true≢false (sym e)
 differ-not false false t e = t
-
--- masks of tests that agree
-mask-same : (n : ℕ) (f g : ℕ → Bool) → ((i : ℕ) → i < n → f i ≡ g i) → maskOf n f ≡ maskOf n g
-mask-same zero f g same = refl
-mask-same (suc n) f g same = let e = mask-same n f g (λ i h. same i (omega arith)) in let d = same n (omega arith) in rw (e, d) refl
 
 -- a rule on calls 0 and 2
 abbrev onBoth : Board → Option Rule → Bool
@@ -132,7 +128,7 @@ module _ (x : Sample) (s : State) (given : Answer) (s′ : State) (last : Last x
       cc
 
   -- a value of which the report of what was read says n is n in the answer
-  told : (value : Report → ℕ) (n : ℕ) → ((r : Report) → ReportsOf (readAt (x .last) 0 .read) (s .slots) (s′ .slots) r → value r ≡ n) → Right x → x .outcome .refused ≡ 0
+  told : (value : Report → ℕ) (n : ℕ) → ((r : Report) → ReportsOf (readAt (x .last) 0 .read) s s′ r → value r ≡ n) → Right x → x .outcome .refused ≡ 0
       → (r : Report) → given ≡ answer.Accepted r → value r ≡ n
   told value n says right accepted r e =
       let d = accepted-is right accepted in
@@ -173,7 +169,7 @@ module _ (s : State) (given : Answer) (s′ : State) where
 
   -- ONE THAT ALWAYS SHOWS ONE MASK: after P5 the two calls differ
   pub not-one-mask : Last p5 s given s′ → (shown : OpenSlots) → SlotsPromise s′ 0 shown → SlotsPromise s′ 1 shown → ⊥
-  unfolding active?
+  unfolding active? live?
   not-one-mask last shown m m′ =
       let L = ledgerLast p5 in
       let shape = shape-after p5 s given s′ last in
@@ -191,17 +187,17 @@ module _ (s : State) (given : Answer) (s′ : State) where
 
   -- ONE THAT IGNORES LIFTS
   pub not-ignoring-lifts : Last p6 s given s′ → s′ .slots ≡ s .slots → ⊥
-  unfolding active?
+  unfolding active? live?
   not-ignoring-lifts last = changes p6 s given s′ last 0 0 (lit< tt) (lit< tt) tt
 
   -- ONE THAT STRIKES AT THE FIRST PUT AND IDLES LATER
   pub not-idling : Last p2 s given s′ → s′ .slots ≡ s .slots → ⊥
-  unfolding active?
+  unfolding active? live?
   not-idling last = changes p2 s given s′ last 0 1 (lit< tt) (lit< tt) tt
 
   -- ONE THAT NAMES ONE CAUSE FOR ALL
   pub not-one-cause : Last p2 s given s′ → (n : ℕ) → ((c t : ℕ) → Struck (ledgerLast p2 .board) (causeOf (s′ .slots)) c t → causeOf (s′ .slots) c t ≡ n) → ⊥
-  unfolding active?
+  unfolding active? live?
   not-one-cause last n one =
       let h = strikes p2 s given s′ last right-p2 0 2 (lit< tt) (lit< tt) (lit< tt) tt in
       let h′ = strikes p2 s given s′ last right-p2 2 1 (lit< tt) (lit< tt) (lit< tt) tt in
@@ -212,19 +208,19 @@ module _ (s : State) (given : Answer) (s′ : State) where
   pub not-inventing-struck : Last p1 s given s′ → (r : Report) → given ≡ answer.Accepted r → r .struck ≢ 2 → ⊥
   not-inventing-struck last r e wrong =
       wrong (told p1 s given s′ last (λ r. r .struck) 2
-      (λ r w. w .changed .struck ∙ struck-between (ledgerBefore p1) (ledgerLast p1) s s′ (is p1 s given s′ last .1) (after p1 s given s′ last) ∙ ap (λ (o : Outcome). o .struck) (right-p1 .outcome))
+      (λ r w. w .struck ∙ struck-between (ledgerBefore p1) (ledgerLast p1) s s′ (is p1 s given s′ last .1) (after p1 s given s′ last) ∙ ap (λ (o : Outcome). o .struck) (right-p1 .outcome))
       right-p1 refl r e)
 
   pub not-inventing-reopened : Last p3 s given s′ → (r : Report) → given ≡ answer.Accepted r → r .reopened ≢ 4 → ⊥
   not-inventing-reopened last r e wrong =
       wrong (told p3 s given s′ last (λ r. r .reopened) 4
-      (λ r w. w .changed .reopened ∙ reopened-between (ledgerBefore p3) (ledgerLast p3) s s′ (is p3 s given s′ last .1) (after p3 s given s′ last) refl
+      (λ r w. w .reopened ∙ reopened-between (ledgerBefore p3) (ledgerLast p3) s s′ (is p3 s given s′ last .1) (after p3 s given s′ last) refl
       ∙ ap (λ (o : Outcome). o .reopened) (right-p3 .outcome))
       right-p3 refl r e)
 
   -- ONE THAT SAYS "NONE" WITH A LIVING ROW THERE: row 0 of P1's rule holds slot 0 in column 0
   pub not-none-with-support : Last p1 s given s′ → SupportPromise s′ 0 0 0 support.Nothing → ⊥
-  unfolding active?
+  unfolding active? live?
   not-none-with-support last m =
       let L = ledgerLast p1 in
       m .answered L (shape-after p1 s given s′ last) (after p1 s given s′ last) .means (ap (λ (l : Lent). firstOf (supportConditions L l 0 0 0)) (lent-after p1 s given s′ last)) 0 (lit< tt)

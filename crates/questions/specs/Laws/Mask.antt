@@ -9,6 +9,7 @@ use lib.Arith.{digits-div, digits-mod}
 use lib.Count.{ones, ones-step}
 use Rattle.model.specs.Tests.{countBelow}
 use Rattle.model.specs.Questions.{maskOf}
+use Rattle.model.specs.Laws.Masks.{mask-lowest}
 use Rattle.questions.specs.Mask.{digit, Doubled}
 
 pub digit-below : (b : Bool) → digit b < 2
@@ -46,15 +47,7 @@ doubled-fits f n m h d = let least : 2 ^ 1 ≤ 2 ^ n = pow-mono h in omega (arit
 pub doubled-all : (f : ℕ → Bool) (m : ℕ) → Doubled f 0 m → m ≡ maskOf 32 f
 doubled-all f m d = omega (arith, d .whole)
 
--- the mask and the count, with the lowest slot apart
-mask-lowest : (n : ℕ) (f : ℕ → Bool) → maskOf (suc n) f ≡ maskOf n (λ i. f (suc i)) * 2 + digit (f 0)
-mask-lowest zero f = omega arith
-mask-lowest (suc n) f = rw (mask-lowest n f) (go (f (suc n)))
-  where
-    go : (b : Bool) → maskOf n (λ i. f (suc i)) * 2 + digit (f 0) + cond b (2 ^ suc n) 0 ≡ (maskOf n (λ i. f (suc i)) + cond b (2 ^ n) 0) * 2 + digit (f 0)
-    go true = omega (arith, pow-suc 2 n)
-    go false = omega arith
-
+-- the count, with the lowest slot apart
 count-lowest : (n : ℕ) (f : ℕ → Bool) → countBelow (suc n) f ≡ countBelow n (λ i. f (suc i)) + digit (f 0)
 count-lowest zero f = refl
 count-lowest (suc n) f = rw (count-lowest n f) (omega arith)

@@ -1,8 +1,8 @@
 -- THE LINE OF AN ANSWER IS THE DEFINITION'S, and it is short: on a state that is a ledger's the report's S and R are those of the boards before and after.
 -- Assumes nothing.
 use mathlib.Core.Path.{_≡_, refl, sym, ap, subst, _∙_}
-use mathlib.Core.Bool.{Bool, true, false, _&&_, cond}
-use mathlib.Core.Logic.{inl, inr}
+use mathlib.Core.Bool.{Bool, true, false, true≢false, _&&_, cond}
+use mathlib.Core.Logic.{_⊎_, inl, inr}
 use mathlib.Core.List.{List}
 use Prim.Native.Nat.{ℕ, zero, suc, _+_, _≤_, _/_, _%_}
 use native.Mathlib.Omega.{arith}
@@ -16,7 +16,7 @@ use Rattle.model.specs.Tests.{countBelow}
 use Rattle.model.specs.Filter.{openOf}
 use Rattle.model.specs.Commands.{kindOf}
 use Rattle.model.specs.Ledger.{Ledger, kindConditions, effect, obey}
-use Rattle.model.specs.Report.{slotCount, struckOf, reopenedOf, struckBy, reopenedBy, open?, struck?, Silent, Changed, Reports}
+use Rattle.model.specs.Report.{slotCount, open?, struck?, reopenedBetween, reopenedOf, changesSlots?, struckBy, reopenedBy, Reports}
 use Rattle.model.specs.Representation.{Represents}
 use Rattle.model.specs.Promise.{numberOf, valuesOf, valuesAt, reportValues, Obeyed}
 use Rattle.model.specs.Sheet.{acceptedLine, decisionLine}
@@ -39,37 +39,45 @@ count-most (suc n) f = go (f n) (count-most n f)
 slots-most : (f : ℕ → ℕ → Bool) → slotCount f ≤ slotsLength
 slots-most f = count-most slotsLength (λ i. f (i / 32) (i % 32))
 
--- S AND R OF A REPORT, by kind: at most 1,024, and one of them is 0
-module _ (before after : List ℕ) (q : Report) where
-  silent-short : Silent q → ShortAnswer (answer.Accepted q)
-  silent-short r = record { struck = omega (arith, r .struck); reopened = omega (arith, r .reopened); one = inl (r .struck) }
+cond-most : (b : Bool) (f : ℕ → ℕ → Bool) → cond b (slotCount f) 0 ≤ slotsLength
+cond-most true f = slots-most f
+cond-most false f = omega arith
 
-  changed-most : Changed before after q → (q .struck ≤ slotsLength) × (q .reopened ≤ slotsLength)
-  changed-most r = (
-    subst (λ (n : ℕ). n ≤ slotsLength) (sym (r .struck)) (slots-most (λ c s. open? before c s && struck? after c s)),
-    subst (λ (n : ℕ). n ≤ slotsLength) (sym (r .reopened)) (slots-most (λ c s. struck? before c s && open? after c s)),
-  )
+-- S AND R OF A REPORT: at most 1,024, and one of them is 0
+module _ (before after : State) (q : Report) where
+  one-none : (c : Command) → Reports c before after q → (q .struck ≡ 0) ⊎ (q .reopened ≡ 0)
+  one-none kind.Board r = inl (r .struck)
+  one-none (kind.Head h) r = inl (r .struck)
+  one-none (kind.Row w) r = inl (r .struck)
+  one-none kind.Post r = inr (r .own .none-reopened)
+  one-none (kind.Retract n) r = inl (r .own .none-struck)
 
   reported-short : (c : Command) → Reports c before after q → ShortAnswer (answer.Accepted q)
-  reported-short kind.Board r = silent-short r
-  reported-short (kind.Head h) r = silent-short r
-  reported-short (kind.Row w) r = silent-short r
-  reported-short kind.Post r = let most = changed-most (r .changed) in record { struck = most .0; reopened = most .1; one = inr (r .none-reopened) }
-  reported-short (kind.Retract n) r = let most = changed-most (r .changed) in record { struck = most .0; reopened = most .1; one = inl (r .none-struck) }
+  reported-short c r =
+      record {
+        struck = subst (λ (n : ℕ). n ≤ slotsLength) (sym (r .struck)) (cond-most (changesSlots? c) (λ c s. open? (before .slots) c s && struck? (after .slots) c s));
+        reopened = subst (λ (n : ℕ). n ≤ slotsLength) (sym (r .reopened)) (cond-most (changesSlots? c) (λ c s. struck? (before .slots) c s && open? (after .slots) c s));
+        one = one-none c r;
+      }
 
--- and those of the boards before and after
+-- and those of the boards before and after: a kind that changes slots leaves the counts alone
+counts-stay : (L : Ledger) (c : Command) (ns : List ℕ) → changesSlots? c ≡ true → L .board .counts ≡ effect L c ns .board .counts
+counts-stay L kind.Board ns e = absurd (true≢false (sym e))
+counts-stay L (kind.Head h) ns e = absurd (true≢false (sym e))
+counts-stay L (kind.Row w) ns e = absurd (true≢false (sym e))
+counts-stay L kind.Post ns e = refl
+counts-stay L (kind.Retract n) ns e = refl
+
 module _ (L : Ledger) (s s′ : State) (ns : List ℕ) (rep : Represents L s) (q : Report) where
-  changed-same : (L′ : Ledger) → L .board .counts ≡ L′ .board .counts → Represents L′ s′ → Changed (s .slots) (s′ .slots) q
-      → (q .struck ≡ struckOf (L′ .board) (openOf (L .board)) (openOf (L′ .board))) × (q .reopened ≡ reopenedOf (L′ .board) (openOf (L .board)) (openOf (L′ .board)))
-  changed-same L′ same rep′ r = (r .struck ∙ struck-between L L′ s s′ rep rep′, r .reopened ∙ reopened-between L L′ s s′ rep rep′ same)
-
-  reported-same : (c : Command) → Represents (effect L c ns) s′ → Reports c (s .slots) (s′ .slots) q
+  reported-same : (c : Command) → Represents (effect L c ns) s′ → Reports c s s′ q
       → (q .struck ≡ struckBy c (L .board) (effect L c ns .board)) × (q .reopened ≡ reopenedBy c (L .board) (effect L c ns .board))
-  reported-same kind.Board rep′ r = (r .struck, r .reopened)
-  reported-same (kind.Head h) rep′ r = (r .struck, r .reopened)
-  reported-same (kind.Row w) rep′ r = (r .struck, r .reopened)
-  reported-same kind.Post rep′ r = changed-same (effect L kind.Post ns) refl rep′ (r .changed)
-  reported-same (kind.Retract n) rep′ r = changed-same (effect L (kind.Retract n) ns) refl rep′ (r .changed)
+  reported-same c rep′ r =
+      (r .struck ∙ ap (λ (n : ℕ). cond (changesSlots? c) n 0) (struck-between L (effect L c ns) s s′ rep rep′), r .reopened ∙ go (changesSlots? c) (counts-stay L c ns))
+    where
+      go : (b : Bool) → (b ≡ true → L .board .counts ≡ effect L c ns .board .counts)
+          → cond b (reopenedBetween (s .slots) (s′ .slots)) 0 ≡ cond b (reopenedOf (effect L c ns .board) (openOf (L .board)) (openOf (effect L c ns .board))) 0
+      go true kept = reopened-between L (effect L c ns) s s′ rep rep′ (kept refl)
+      go false kept = refl
 
 -- AN ANSWER, from its number and the report
 abbrev answerBy : ℕ → Report → Answer
@@ -93,7 +101,7 @@ module _ (L : Ledger) (s s′ : State) (c : Command) (ns : List ℕ) (rep : Repr
   pub answer-line : answerLine c given ≡ decisionLine refusal c (L .board) (next refusal .board)
   answer-line = ap (answerLine c) is ∙ go refusal (o .reported) (o .represents)
     where
-      go : (n : ℕ) → (n ≡ 0 → Reports c (s .slots) (s′ .slots) (o .report)) → Represents (next n) s′
+      go : (n : ℕ) → (n ≡ 0 → Reports c s s′ (o .report)) → Represents (next n) s′
           → answerLine c (answerBy n (o .report)) ≡ decisionLine n c (L .board) (next n .board)
       go zero reported rep′ =
           let same = reported-same L s s′ ns rep (o .report) c rep′ (reported refl) in
@@ -104,6 +112,6 @@ module _ (L : Ledger) (s s′ : State) (c : Command) (ns : List ℕ) (rep : Repr
   pub answer-short : ShortAnswer given
   answer-short = subst (λ (a : Answer). ShortAnswer a) (sym is) (go refusal (o .reported))
     where
-      go : (n : ℕ) → (n ≡ 0 → Reports c (s .slots) (s′ .slots) (o .report)) → ShortAnswer (answerBy n (o .report))
-      go zero reported = reported-short (s .slots) (s′ .slots) (o .report) c (reported refl)
+      go : (n : ℕ) → (n ≡ 0 → Reports c s s′ (o .report)) → ShortAnswer (answerBy n (o .report))
+      go zero reported = reported-short s s′ (o .report) c (reported refl)
       go (suc n) reported = record { struck = omega arith; reopened = omega arith; one = inl refl }

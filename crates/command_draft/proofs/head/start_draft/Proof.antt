@@ -1,12 +1,12 @@
 -- What is refused, and when, is the check's; the draft that is started is the stepped ledger's.
 use mathlib.Core.Path.{sym, _∙_}
-use Rattle.command_draft.specs.Laws.Drafts.{head-refused, head-accepted}
+use Rattle.command_draft.specs.Laws.Drafts.{new-left, head-refused, head-accepted}
 use borrow.Author.Needs.{needs}
 use Rattle.command_draft.proofs.head.start_draft.Statement.{statement}
 use Rattle.command_draft.proofs.head.start_draft.Tie as tie
 
-check-head-requires : tie.Need-check-head-requires
-check-head-requires c κs = search needs
+redraft-requires : tie.Need-redraft-requires
+redraft-requires c κs = search needs
 
 refused-requires : tie.Need-refused-requires
 refused-requires c κs = search needs
@@ -14,10 +14,7 @@ refused-requires c κs = search needs
 returns : tie.Need-returns
 returns c =
     let tested = c .before in
-    rw (c .refused .ensures) (head-refused _ _ _ (tested .before .check-head .ensures) (tested .if1 .taken))
-
-draft-of-requires : tie.Need-draft-of-requires
-draft-of-requires c κs = search needs
+    rw (c .refused .ensures) (head-refused _ _ _ (tested .before .before .redraft .ensures .number) (tested .if1 .taken))
 
 with-draft-requires : tie.Need-with-draft-requires
 with-draft-requires c κs = search needs
@@ -28,18 +25,17 @@ accepted-requires c κs = search needs
 returns-2 : tie.Need-returns-2
 returns-2 c =
     let placed = c .before in
-    let made = placed .before in
-    let tested = made .before in
-    rw (c .accepted .ensures, placed .with-draft .ensures, made .draft-of .ensures) (head-accepted _ _ (sym (tested .if1 .left) ∙ tested .before .check-head .ensures))
+    let tested = placed .before in
+    let given = tested .before .before .redraft .ensures in
+    rw (c .accepted .ensures, placed .with-draft .ensures, new-left given (tested .if1 .left)) (head-accepted _ _ (sym (tested .if1 .left) ∙ given .number))
 
 pub start-draft-spec : {M : Type 1} → statement M
 start-draft-spec =
     tie.close
     (tie.spec
-    check-head-requires
+    redraft-requires
     refused-requires
     returns
-    draft-of-requires
     with-draft-requires
     accepted-requires
     returns-2)

@@ -1,12 +1,12 @@
 -- What is refused, and when, is the check's; the draft with a row more is the stepped ledger's.
 use mathlib.Core.Path.{sym, _∙_}
-use Rattle.command_draft.specs.Laws.Drafts.{row-refused, row-accepted}
+use Rattle.command_draft.specs.Laws.Drafts.{new-left, row-refused, row-accepted}
 use borrow.Author.Needs.{needs}
 use Rattle.command_draft.proofs.row.add_row.Statement.{statement}
 use Rattle.command_draft.proofs.row.add_row.Tie as tie
 
-check-row-requires : tie.Need-check-row-requires
-check-row-requires c κs = search needs
+redraft-requires : tie.Need-redraft-requires
+redraft-requires c κs = search needs
 
 refused-requires : tie.Need-refused-requires
 refused-requires c κs = search needs
@@ -14,10 +14,7 @@ refused-requires c κs = search needs
 returns : tie.Need-returns
 returns c =
     let tested = c .before in
-    rw (c .refused .ensures) (row-refused _ _ _ (tested .before .check-row .ensures) (tested .if1 .taken))
-
-pushed-requires : tie.Need-pushed-requires
-pushed-requires c κs = search needs
+    rw (c .refused .ensures) (row-refused _ _ _ (tested .before .before .redraft .ensures .number) (tested .if1 .taken))
 
 with-draft-requires : tie.Need-with-draft-requires
 with-draft-requires c κs = search needs
@@ -28,18 +25,17 @@ accepted-requires c κs = search needs
 returns-2 : tie.Need-returns-2
 returns-2 c =
     let placed = c .before in
-    let made = placed .before in
-    let tested = made .before in
-    rw (c .accepted .ensures, placed .with-draft .ensures, made .pushed .ensures) (row-accepted _ _ (sym (tested .if1 .left) ∙ tested .before .check-row .ensures))
+    let tested = placed .before in
+    let given = tested .before .before .redraft .ensures in
+    rw (c .accepted .ensures, placed .with-draft .ensures, new-left given (tested .if1 .left)) (row-accepted _ _ (sym (tested .if1 .left) ∙ given .number))
 
 pub add-row-spec : {M : Type 1} → statement M
 add-row-spec =
     tie.close
     (tie.spec
-    check-row-requires
+    redraft-requires
     refused-requires
     returns
-    pushed-requires
     with-draft-requires
     accepted-requires
     returns-2)

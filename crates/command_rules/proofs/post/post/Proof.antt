@@ -19,6 +19,12 @@ returns c ns =
 post-unchecked-requires : tie.Need-post-unchecked-requires
 post-unchecked-requires c κs = search needs
 
+empty-requires : tie.Need-empty-requires
+empty-requires c κs = search needs
+
+with-draft-requires : tie.Need-with-draft-requires
+with-draft-requires c κs = search needs
+
 same-length : tie.Need-same-length
 same-length c = search needs
 
@@ -30,9 +36,10 @@ same-length-3 c = search needs
 
 returns-2 : tie.Need-returns-2
 returns-2 c ns =
-    let done = c .before .before .before .before .before .before in
+    let emptied = c .before in
+    let done = emptied .before .before .before .before .before .before .before in
     let tested = done .before .before .before .before in
-    post-accepted _ ns _ _ (done .post-unchecked .ensures) (sym (tested .if1 .left) ∙ tested .before .check-post .ensures)
+    rw (c .with-draft .ensures, emptied .empty .ensures) (post-accepted _ ns _ _ (done .post-unchecked .ensures) (sym (tested .if1 .left) ∙ tested .before .check-post .ensures))
 
 pub post-spec : {M : Type 1} → statement M
 post-spec =
@@ -42,6 +49,8 @@ post-spec =
     refused-requires
     returns
     post-unchecked-requires
+    empty-requires
+    with-draft-requires
     same-length
     same-length-2
     same-length-3

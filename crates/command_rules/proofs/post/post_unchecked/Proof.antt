@@ -1,4 +1,4 @@
--- The draft's number names a rule, and the tables of the heads have the lengths of their types, so the rule can be written.
+-- A draft's number names a rule, and the tables of the heads have the lengths of their types, so the rule can be written.
 use mathlib.Core.Path.{refl}
 use native.Mathlib.Omega.{arith}
 use borrow.Author.Needs.{needs}
@@ -12,7 +12,7 @@ rule-index-requires c κs = search needs
 post-requires : tie.Need-post-requires
 post-requires c κs =
     let placed = c .before .before .before .before .before .before in
-    let start = placed .before .before .before .before .before .before .before .before .before .before .before in
+    let start = placed .before .before .before .before .before .before .before .before .before .before in
     -- what is known of the four tables of the heads, in their order
     let sizes = start .good .0 .1 .1 .0 .1 .1 in (
       start .pre,
@@ -20,14 +20,8 @@ post-requires c κs =
           (sizes .1 .0 .1 .0 .1) (sizes .1 .1 .0 .1 .0 .1) (sizes .1 .1 .1 .0 .1 .0 .1),
     )
 
-empty-requires : tie.Need-empty-requires
-empty-requires c κs = search needs
-
 with-heads-requires : tie.Need-with-heads-requires
 with-heads-requires c κs = search needs
-
-with-draft-requires : tie.Need-with-draft-requires
-with-draft-requires c κs = search needs
 
 accepted-requires : tie.Need-accepted-requires
 accepted-requires c κs = search needs
@@ -43,17 +37,15 @@ same-length-3 c = search needs
 
 returns : tie.Need-returns
 returns c =
-    let drafted = c .before in
-    let headed = drafted .before in
-    let emptied = headed .before in
-    let posted = emptied .before .before .before .before .before .before .before in
+    let headed = c .before in
+    let posted = headed .before .before .before .before .before .before .before in
     let placed = posted .before .before .before .before .before .before .before in
-    rw (c .accepted .ensures, drafted .with-draft .ensures, headed .with-heads .ensures)
+    rw (c .accepted .ensures, headed .with-heads .ensures)
     (record {
       struck = posted .post .result;
       done = rw (← placed .rule-index .ensures) (posted .post .ensures);
       counts = refl;
-      draft = emptied .empty .ensures;
+      draft = refl;
       answer-is = refl;
     })
 
@@ -63,9 +55,7 @@ post-unchecked-spec =
     (tie.spec
     rule-index-requires
     post-requires
-    empty-requires
     with-heads-requires
-    with-draft-requires
     accepted-requires
     same-length
     same-length-2

@@ -1,0 +1,95 @@
+-- By what was read: a command that lies in the file is entered; anything else ends the file.
+use mathlib.Core.Path.{refl}
+use Prim.Native.Nat.{_<_, _≤_}
+use native.Mathlib.Omega.{arith}
+use lib.ListN.{length}
+use Rattle.board.specs.Laws.Replay.{decoded-inside, taken-command, taken-refused, taken-end}
+use borrow.Author.Needs.{needs}
+use Rattle.board.proofs.file.take_next.Statement.{statement}
+use Rattle.board.proofs.file.take_next.Tie as tie
+
+decode-requires : tie.Need-decode-requires
+decode-requires c κs = search needs
+
+enum-told : tie.Need-enum-told
+enum-told c = search needs
+
+-- where a command was read, it lies in the file
+command-place : (c : tie.After-enum-told) → let decoded = c .before .before in
+    let start = decoded .before .before .before .before .before .before in
+    (start .args .position .at < decoded .decode .result .next) × (decoded .decode .result .next ≤ length (start .args .file .now))
+command-place c =
+    let decoded = c .before .before in
+    let start = decoded .before .before .before .before .before .before in
+    decoded-inside (start .args .file .now) (start .args .position .at) (decoded .decode .result) (decoded .decode .ensures) _ (c .enum-told .given .1)
+
+sub-command : tie.Need-sub-command
+sub-command c =
+    omega (arith, command-place c .0)
+
+part-command-start : tie.Need-part-command-start
+part-command-start c =
+    omega (arith, command-place c .0)
+
+part-command-end : tie.Need-part-command-end
+part-command-end c =
+    omega (arith, command-place c .1)
+
+command-requires : tie.Need-command-requires
+command-requires c κs = search needs
+
+add-t18 : tie.Need-add-t18
+add-t18 c =
+    let told = c .before .before .before .before .before .before .before .before .before .before .before .before in
+    let start = told .before .before .before .before .before .before .before .before in
+    omega (arith, start .pre .1 .further, start .pre .1 .few, start .good .1 .0 .1)
+
+enum-known-read : tie.Need-enum-known-read
+enum-known-read c = search needs
+
+enum-told-2 : tie.Need-enum-told-2
+enum-told-2 c = search needs
+
+same-length : tie.Need-same-length
+same-length c = search needs
+
+same-length-2 : tie.Need-same-length-2
+same-length-2 c = search needs
+
+same-length-3 : tie.Need-same-length-3
+same-length-3 c = search needs
+
+returns : tie.Need-returns
+returns c =
+    let entered = c .before .before .before .before .before .before .before in
+    let told = entered .before .before .before .before .before in
+    let decoded = told .before .before in
+    let start = decoded .before .before .before .before .before .before in
+    taken-command _ _ _ _ (decoded .decode .ensures) _ _ _ (told .enum-told .given .1) refl refl refl _ (start .pre .0) (entered .command .ensures)
+
+returns-2 : tie.Need-returns-2
+returns-2 c =
+    taken-refused _ _ _ _ (c .before .before .before .decode .ensures) _ _ _ (c .before .read .given .1) refl refl refl
+
+returns-3 : tie.Need-returns-3
+returns-3 c = taken-end _ _ _ _ (c .before .before .decode .ensures) _ (c .enum-told2 .given .1) refl refl refl
+
+pub take-next-spec : {M : Type 1} → statement M
+take-next-spec =
+    tie.close
+    (tie.spec
+    decode-requires
+    enum-told
+    sub-command
+    part-command-start
+    part-command-end
+    command-requires
+    add-t18
+    enum-known-read
+    enum-told-2
+    same-length
+    same-length-2
+    same-length-3
+    returns
+    returns-2
+    returns-3)
