@@ -25,6 +25,7 @@ use Rattle.command_rules.specs.Checks.{postChecks, retractChecks}
 use Rattle.command_rules.specs.Changes.{postReport, retractReport, stateRules, Posted, Retracted}
 use Rattle.model.specs.Laws.Promised.{promise-refused, promise-accepted}
 use Rattle.command_rules.specs.Laws.Checks.{post-checks-same, retract-checks-same}
+use Rattle.layout.specs.declared.value.Draft.{Draft}
 use Rattle.layout.specs.Value.{emptyDraft, withDraft}
 use Rattle.layout.specs.Memory.{State, stateOf}
 use Rattle.filter_post.specs.Laws.Stored.{post-stored, post-struck, post-reopened}
@@ -55,10 +56,10 @@ module _ (before : State) (ns : List ℕ) where
   pub post-refused : (n : ℕ) → (n ≡ 0 → ⊥) → n ≡ firstOf checks → KindPromise before kind.Post ns (answer.Refused n) before
   post-refused n ne e = promise-refused before kind.Post ns n ne (λ L shape is. e ∙ post-checks-same L shape before is ns)
 
-  -- the draft is posted, and then there is none
-  module _ (given : Answer) (left : State) (done : Posted (before .value .draft) before given left) where
+  -- the draft is posted, and the one that is left is none
+  module _ (given : Answer) (left : State) (done : Posted (before .value .draft) before given left) (kept : Draft) (is-empty : kept ≡ emptyDraft) where
     abbrev after : State
-    after = stateOf (withDraft (left .value) emptyDraft) (left .rows) (left .killers) (left .slots)
+    after = stateOf (withDraft (left .value) kept) (left .rows) (left .killers) (left .slots)
 
     post-reports : length (before .slots) ≡ slotsLength → Reports kind.Post before after (postReport (done .struck))
     post-reports size =
@@ -85,7 +86,7 @@ module _ (before : State) (ns : List ℕ) where
               stored = rw (heads-kept before after (done .counts))
                   (post-stored (L .board) (shape .board) (d .number) (g .0) untaken (d .rule) (g .1)
                   (drafted .rule) (before .value .heads) (before .rows) (before .killers) (before .slots) (is .stored) (stateRules after) (rw number at (done .done)));
-              drafted = empty-drafted;
+              drafted = rw is-empty empty-drafted;
             }
 
     pub post-accepted : 0 ≡ firstOf checks → KindPromise before kind.Post ns given after

@@ -39,7 +39,8 @@ returns-2 c ns =
     let emptied = c .before in
     let done = emptied .before .before .before .before .before .before .before in
     let tested = done .before .before .before .before in
-    rw (c .with-draft .ensures, emptied .empty .ensures) (post-accepted _ ns _ _ (done .post-unchecked .ensures) (sym (tested .if1 .left) ∙ tested .before .check-post .ensures))
+    rw (c .with-draft .ensures)
+    (post-accepted _ ns _ _ (done .post-unchecked .ensures) _ (emptied .empty .ensures) (sym (tested .if1 .left) ∙ tested .before .check-post .ensures))
 
 pub post-spec : {M : Type 1} → statement M
 post-spec =
