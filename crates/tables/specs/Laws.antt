@@ -4,3 +4,6 @@ pub mod Sweep
 pub mod Assign
 pub mod Count
 pub mod Lost
+pub mod Masks
+pub mod Flags
+pub mod Left

@@ -2,4 +2,5 @@ pub mod Sweep
 pub mod Assign
 pub mod Count
 pub mod Lost
+pub mod Masks
 pub mod Laws
