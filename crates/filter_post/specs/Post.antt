@@ -1,16 +1,12 @@
 -- A post: the rule is written, and propagation starts from it alone.
 use mathlib.Core.List.{List}
-use mathlib.Core.Bool.{Bool, true, false}
+use mathlib.Core.Bool.{Bool}
 use Prim.Native.Nat.{ℕ}
-use lib.ListN.{set, replicate}
 use Rattle.layout.specs.declared.value.RuleData.{RuleData}
 use Rattle.filter_propagate.specs.Rules.{RuleBytes, reached}
+use Rattle.filter_propagate.specs.Queue.{onlyRule}
 use Rattle.filter_propagate.specs.Steps.{Propagated}
 use Rattle.filter_post.specs.Write.{RuleWritten}
-
--- only rule p is pending
-abbrev pub onlyRule : ℕ → List Bool
-onlyRule p = set (replicate 64 false) p true
 
 -- THE POST OF A RULE under number p, which struck s slots
 pub record PostDone (p s : ℕ) (rule : RuleData) (R R′ : RuleBytes) (killers killers′ slots slots′ : List ℕ) : Type 0 where

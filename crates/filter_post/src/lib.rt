@@ -28,7 +28,5 @@ pub fn post(
         (now (killers .exit)) (now (slots .entry)) (now (slots .exit)) ⌝ }
 {
     write::write_rule(rows, arity, scope, lengths, p, rule);
-    let mut pending = [false; 64];
-    pending[p] = true;
-    filter_propagate::propagate(rows, killers, slots, arity, scope, lengths, &mut pending)
+    filter_propagate::propagate_from(rows, killers, slots, arity, scope, lengths, p)
 }

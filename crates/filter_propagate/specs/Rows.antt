@@ -1,12 +1,9 @@
--- What the walk over a rule's rows does: a living row with a struck slot is killed, and the slots of a row that goes on living are supported.
+-- What the walk over a rule's rows means: a living row with a struck slot is killed, and the slots of a row that goes on living are supported.
 use mathlib.Core.Path.{_≡_}
 use mathlib.Core.List.{List}
 use mathlib.Core.Logic.{_⊎_}
-use mathlib.Core.Bool.{Bool}
-use Prim.Native.Nat.{ℕ, _+_, _*_, _≤_, _<_}
+use Prim.Native.Nat.{ℕ, _≤_, _<_}
 use lib.ListN.{getD}
-use Rattle.tables.specs.Sweep.{One, Swept}
-use Rattle.tables.specs.Assign.{Flagged, Below}
 use Rattle.layout.specs.Places.{slotOf, killerOf, rowCell}
 
 -- column k of row w of rule p holds a struck slot
@@ -27,25 +24,6 @@ pub record FirstStruck (rows slots scope : List ℕ) (p w n r : ℕ) : Type 0 wh
 pub record Killed (rows slots scope : List ℕ) (p n w old new : ℕ) : Type 0 where
   pub dead : (old ≡ 255 → ⊥) → new ≡ old
   pub living : old ≡ 255 → ((new ≡ 255) × NoneStruck rows slots scope p n w) ⊎ ((new < n) × FirstStruck rows slots scope p w n new)
-
--- entry j of the table of supported slots is that of the slot in column k of row w
-abbrev pub InColumn : List ℕ → ℕ → ℕ → ℕ → ℕ → Type 0
-InColumn rows p w k j = j ≡ 32 * k + slotOf rows p w k
-
--- row w goes on living, and entry j is that of a slot of it
-abbrev pub Supports : List ℕ → List ℕ → List ℕ → List ℕ → ℕ → ℕ → ℕ → ℕ → Type 0
-Supports rows slots scope killers p n w j =
-    (killerOf killers p w ≡ 255) × NoneStruck rows slots scope p n w × Below (InColumn rows p w) n j
-
--- row w is treated: its killer byte, and its slots in the table
-pub record RowRevised (rows slots scope : List ℕ) (p n w : ℕ) (killers killed : List ℕ) (supported after : List Bool) : Type 0 where
-  pub kills : One 0 (Killed rows slots scope p n) (64 * p) w killers killed
-  pub supports : Flagged (Supports rows slots scope killers p n w) supported after
-
--- the first m rows are treated
-pub record RowsRevised (rows slots scope : List ℕ) (p n m : ℕ) (killers killed : List ℕ) (supported after : List Bool) : Type 0 where
-  pub kills : Swept 0 (Killed rows slots scope p n) (64 * p) m killers killed
-  pub supports : Flagged (Below (Supports rows slots scope killers p n) m) supported after
 
 -- a living row of rule p, of its first m, holds slot s in column k
 pub record Support (rows killers : List ℕ) (p m k s : ℕ) : Type 0 where

@@ -29,9 +29,6 @@ pub record Progress : Type 0 where
 abbrev pub reached : List ℕ → List ℕ → List Bool → Progress
 reached killers slots pending = record { killers = killers; slots = slots; pending = pending }
 
-abbrev pub reachedIn : RefT (List ℕ) → RefT (List ℕ) → RefT (List Bool) → Progress
-reachedIn killers slots pending = reached (now killers) (now slots) (now pending)
-
 -- the calls of the first n columns of rule p are pairwise different
 abbrev pub Distinct : List ℕ → ℕ → ℕ → Type 0
 Distinct scope p n = (j k : ℕ) → j < n → k < n → callOf scope p j ≡ callOf scope p k → j ≡ k

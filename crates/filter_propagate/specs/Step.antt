@@ -6,6 +6,7 @@ use lib.ListN.{set}
 use Rattle.tables.specs.Sweep.{Swept}
 use Rattle.tables.specs.Assign.{Flagged, Below}
 use Rattle.tables.specs.Count.{count}
+use Rattle.tables.specs.Masks.{IsMask}
 use Rattle.filter_propagate.specs.Rules.{RuleBytes, Progress}
 use Rattle.filter_propagate.specs.Rows.{Killed, Unsupported}
 use Rattle.filter_propagate.specs.Strikes.{isOpen, SlotsStruck, ColumnWith, StruckOn}
@@ -23,10 +24,10 @@ pub record Revised (R : RuleBytes) (p r : ℕ) (killers killed slots struck : Li
       slots
       struck
 
--- the same, and the calls where a slot was struck are flagged
-pub record Revision (R : RuleBytes) (p r : ℕ) (killers killed slots struck : List ℕ) (changed after : List Bool) : Type 0 where
+-- the same, and `calls` is the mask of the calls where a slot was struck
+pub record Revision (R : RuleBytes) (p r calls : ℕ) (killers killed slots struck : List ℕ) : Type 0 where
   pub revised : Revised R p r killers killed slots struck
-  pub flags : Flagged (StruckOn slots struck) changed after
+  pub calls-struck : IsMask (StruckOn slots struck) 32 calls
 
 -- a step: the pending rule p is revised, and is pending no more; the other rules on a call where a slot was struck are pending
 pub record Stepped (R : RuleBytes) (p r : ℕ) (x y : Progress) : Type 0 where

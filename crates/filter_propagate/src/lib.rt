@@ -1,43 +1,65 @@
 // Propagation over the lent bytes: pending rules are revised one after another, until every rule is stable.
 // All of it is safe and ends on any contents of the buffers; what it means on a board is for the crates above.
+pub mod known; // the masks of the calls that a command has looked at
 pub mod rows; // the walk over a rule's rows: kills and supports
 pub mod strikes; // striking the slots without a support
-pub mod queue; // the pending rules
 
-ghost use mathlib.Core.Path.{_≡_};
 ghost use Prim.Native.Nat.{_<_};
-ghost use lib.ListN.{length};
-ghost use Rattle.filter_propagate.specs.Rules.{rulesIn, reachedIn};
-ghost use Rattle.filter_propagate.specs.Bounds.{PendingRule};
+ghost use Rattle.tables.specs.Masks.{Has, flagsOf};
+ghost use Rattle.masks.specs.Rules.{RulesOn};
+ghost use Rattle.filter_propagate.specs.Rules.{rulesIn, reached};
+ghost use Rattle.filter_propagate.specs.Queue.{onlyRule};
 ghost use Rattle.filter_propagate.specs.Step.{Revision, Stepped};
 ghost use Rattle.filter_propagate.specs.Steps.{Propagated};
+ghost use Rattle.filter_propagate.specs.Known.{Known};
 ghost use Rattle.layout.specs.Bounds.{Sizes};
 
-// Revises rule p: kills its living rows that hold a struck slot, then strikes its open slots without a support, and
-// flags the calls where it struck one. The number of slots struck.
+// How many slots a revision struck, the calls where one was, and the calls whose masks are known after it.
+pub struct RevisionDone {
+    pub number: usize,
+    pub calls: u32,
+    pub known: u32,
+}
+
+// How many slots a step struck, the rules that are pending after it, and the calls whose masks are known.
+pub struct StepDone {
+    pub struck: usize,
+    pub pending: u64,
+    pub known: u32,
+}
+
+// Revises rule p: kills its living rows that hold a struck slot, then strikes its open slots without a support.
 pub fn revise(
     rows: &[u8],
     killers: &mut [u8],
     slots: &mut [u8],
+    opened: &mut [u32; 32],
+    struck: &mut [u32; 32],
+    known: u32,
     arity: &[u8; 64],
     scope: &[u8; 256],
     lengths: &[u8; 64],
-    changed: &mut [bool; 32],
     p: usize,
-) -> usize
+) -> RevisionDone
     requires { ⌜ Sizes (now rows) (now killers) (now slots) ⌝ }
     requires { ⌜ p < 64 ⌝ }
-    requires { ⌜ length (now changed) ≡ 32 ⌝ }
+    requires { ⌜ Known (Has known) (now slots) (now opened) (now struck) ⌝ }
     ensures { λ r. ⌜ Revision
-        (rulesIn (rows .entry) (arity .entry) (scope .entry) (lengths .entry)) p r (now (killers .entry))
-        (now (killers .exit)) (now (slots .entry)) (now (slots .exit)) (now (changed .entry))
-        (now (changed .exit)) ⌝ }
+        (rulesIn (rows .entry) (arity .entry) (scope .entry) (lengths .entry)) p (r .number) (r .calls)
+        (now (killers .entry)) (now (killers .exit)) (now (slots .entry)) (now (slots .exit)) ⌝ }
+    ensures { λ r. ⌜ Known (Has (r .known)) (now (slots .exit)) (now (opened .exit)) (now (struck .exit)) ⌝ }
 {
     let n = layout::places::cap(arity[p], 4);
     let m = layout::places::cap(lengths[p], 64);
-    let mut supported = [false; 128];
-    rows::revise_rows(rows, slots, killers, scope, &mut supported, p, n, m);
-    strikes::strike_columns(slots, &supported, scope, changed, p as u8, n)
+    let all = known::know_columns(slots, opened, struck, known, scope, p, n);
+    let dead = masks::columns::column_sets(struck, scope, p, n);
+    let found = rows::revise_columns(rows, killers, dead, p, n, m);
+    let done = strikes::strike_columns(slots, opened, struck, found, scope, p as u8, n);
+    RevisionDone {
+        number: done.number,
+        calls: done.calls,
+        known: all,
+    }
 }
 
 // One step: the pending rule p is revised, and the other rules on a call where a slot was struck become pending. Rule p
@@ -46,26 +68,93 @@ pub fn step(
     rows: &[u8],
     killers: &mut [u8],
     slots: &mut [u8],
+    opened: &mut [u32; 32],
+    struck: &mut [u32; 32],
+    known: u32,
     arity: &[u8; 64],
     scope: &[u8; 256],
     lengths: &[u8; 64],
-    pending: &mut [bool; 64],
+    on: &[u64; 32],
+    pending: u64,
     p: usize,
+) -> StepDone
+    requires { ⌜ Sizes (now rows) (now killers) (now slots) ⌝ }
+    requires { ⌜ RulesOn (now arity) (now scope) (now on) ⌝ }
+    requires { ⌜ p < 64 ⌝ }
+    requires { ⌜ Has pending p ⌝ }
+    requires { ⌜ Known (Has known) (now slots) (now opened) (now struck) ⌝ }
+    ensures { λ r. ⌜ Stepped
+        (rulesIn (rows .entry) (arity .entry) (scope .entry) (lengths .entry)) p (r .struck)
+        (reached (now (killers .entry)) (now (slots .entry)) (flagsOf 64 pending))
+        (reached (now (killers .exit)) (now (slots .exit)) (flagsOf 64 (r .pending))) ⌝ }
+    ensures { λ r. ⌜ Known (Has (r .known)) (now (slots .exit)) (now (opened .exit)) (now (struck .exit)) ⌝ }
+{
+    let done = revise(
+        rows,
+        killers,
+        slots,
+        opened,
+        struck,
+        known,
+        arity,
+        scope,
+        lengths,
+        p,
+    );
+    StepDone {
+        struck: done.number,
+        pending: masks::rules::enqueue(on, done.calls, pending, p),
+        known: done.known,
+    }
+}
+
+// Revises pending rules until none is pending, where the masks of some calls are known already. The number of slots struck.
+pub fn propagate_known(
+    rows: &[u8],
+    killers: &mut [u8],
+    slots: &mut [u8],
+    opened: &mut [u32; 32],
+    struck: &mut [u32; 32],
+    known: u32,
+    arity: &[u8; 64],
+    scope: &[u8; 256],
+    lengths: &[u8; 64],
+    on: &[u64; 32],
+    pending: u64,
 ) -> usize
     requires { ⌜ Sizes (now rows) (now killers) (now slots) ⌝ }
-    requires { ⌜ PendingRule (now pending) p ⌝ }
-    ensures { λ r. ⌜ Stepped
-        (rulesIn (rows .entry) (arity .entry) (scope .entry) (lengths .entry)) p r
-        (reachedIn (killers .entry) (slots .entry) (pending .entry))
-        (reachedIn (killers .exit) (slots .exit) (pending .exit)) ⌝ }
+    requires { ⌜ RulesOn (now arity) (now scope) (now on) ⌝ }
+    requires { ⌜ Known (Has known) (now slots) (now opened) (now struck) ⌝ }
+    ensures { λ r. ⌜ Propagated
+        (rulesIn (rows .entry) (arity .entry) (scope .entry) (lengths .entry)) r
+        (reached (now (killers .entry)) (now (slots .entry)) (flagsOf 64 pending))
+        (reached (now (killers .exit)) (now (slots .exit)) (flagsOf 64 0)) ⌝ }
 {
-    pending[p] = false;
-    let mut changed = [false; 32];
-    let n = revise(rows, killers, slots, arity, scope, lengths, &mut changed, p);
-    if n > 0 {
-        queue::enqueue(arity, scope, &changed, pending, p);
+    let mut left = pending;
+    let mut all = known;
+    let mut total = 0;
+    let mut p = masks::rules::next_rule(left, 63);
+    while p < 64 {
+        let done = step(
+            rows,
+            killers,
+            slots,
+            opened,
+            struck,
+            all,
+            arity,
+            scope,
+            lengths,
+            on,
+            left,
+            p,
+        );
+        total += done.struck;
+        left = done.pending;
+        all = done.known;
+        p = masks::rules::next_rule(left, p);
     }
-    n
+    total
 }
 
 // Revises pending rules until none is pending. The number of slots struck.
@@ -76,21 +165,81 @@ pub fn propagate(
     arity: &[u8; 64],
     scope: &[u8; 256],
     lengths: &[u8; 64],
-    pending: &mut [bool; 64],
+    on: &[u64; 32],
+    pending: u64,
 ) -> usize
     requires { ⌜ Sizes (now rows) (now killers) (now slots) ⌝ }
-    requires { ⌜ length (now pending) ≡ 64 ⌝ }
+    requires { ⌜ RulesOn (now arity) (now scope) (now on) ⌝ }
     ensures { λ r. ⌜ Propagated
         (rulesIn (rows .entry) (arity .entry) (scope .entry) (lengths .entry)) r
-        (reachedIn (killers .entry) (slots .entry) (pending .entry))
-        (reachedIn (killers .exit) (slots .exit) (pending .exit)) ⌝ }
+        (reached (now (killers .entry)) (now (slots .entry)) (flagsOf 64 pending))
+        (reached (now (killers .exit)) (now (slots .exit)) (flagsOf 64 0)) ⌝ }
 {
-    let mut total = 0;
-    let mut p = queue::next_pending(pending);
-    while p < 64 {
-        let n = step(rows, killers, slots, arity, scope, lengths, pending, p);
-        total += n;
-        p = queue::next_pending(pending);
+    let mut opened = [0u32; 32];
+    let mut struck = [0u32; 32];
+    propagate_known(
+        rows,
+        killers,
+        slots,
+        &mut opened,
+        &mut struck,
+        0,
+        arity,
+        scope,
+        lengths,
+        on,
+        pending,
+    )
+}
+
+// Revises rule p, and where it strikes, the rules on the calls that it changed: the table of the rules on each call is made only then. The number of slots struck.
+pub fn propagate_from(
+    rows: &[u8],
+    killers: &mut [u8],
+    slots: &mut [u8],
+    arity: &[u8; 64],
+    scope: &[u8; 256],
+    lengths: &[u8; 64],
+    p: usize,
+) -> usize
+    requires { ⌜ Sizes (now rows) (now killers) (now slots) ⌝ }
+    requires { ⌜ p < 64 ⌝ }
+    ensures { λ r. ⌜ Propagated
+        (rulesIn (rows .entry) (arity .entry) (scope .entry) (lengths .entry)) r
+        (reached (now (killers .entry)) (now (slots .entry)) (onlyRule p))
+        (reached (now (killers .exit)) (now (slots .exit)) (flagsOf 64 0)) ⌝ }
+{
+    let mut opened = [0u32; 32];
+    let mut struck = [0u32; 32];
+    let first = revise(
+        rows,
+        killers,
+        slots,
+        &mut opened,
+        &mut struck,
+        0,
+        arity,
+        scope,
+        lengths,
+        p,
+    );
+    if first.number == 0 {
+        return 0;
     }
-    total
+    let on = masks::rules::rules_on_calls(arity, scope);
+    let pending = masks::rules::enqueue(&on, first.calls, 0, p);
+    let rest = propagate_known(
+        rows,
+        killers,
+        slots,
+        &mut opened,
+        &mut struck,
+        first.known,
+        arity,
+        scope,
+        lengths,
+        &on,
+        pending,
+    );
+    first.number + rest
 }

@@ -6,7 +6,7 @@ use Prim.Native.Nat.{ℕ}
 use lib.ListN.{length}
 use Rattle.layout.specs.Sizes.{killersLength, rowsLength, slotsLength}
 
--- a visited slot for each slot, and a flag for each call
+-- a flag for each slot, and one for each call
 pub record VisitTables (visited flags : List Bool) : Type 0 where
   pub visited-size : length visited ≡ slotsLength
   pub flags-size : length flags ≡ 32
@@ -15,9 +15,3 @@ pub record VisitTables (visited flags : List Bool) : Type 0 where
 pub record RowSizes (rows killers : List ℕ) : Type 0 where
   pub rows-size : length rows ≡ rowsLength
   pub killers-size : length killers ≡ killersLength
-
--- the slots, their visited, and flags for the calls where one is reopened
-pub record SlotTables (slots : List ℕ) (visited flags : List Bool) : Type 0 where
-  pub slots-size : length slots ≡ slotsLength
-  pub visited-size : length visited ≡ slotsLength
-  pub flags-size : length flags ≡ 32

@@ -3,7 +3,6 @@ pub mod Touched
 pub mod Bounds
 pub mod Spread
 pub mod Scan
-pub mod Seed
 pub mod Closure
 pub mod Reopen
 pub mod Revive

@@ -5,8 +5,9 @@ use mathlib.Core.Bool.{Bool}
 use Prim.Native.Nat.{ℕ, _<_}
 use lib.ListN.{length, getD}
 use Rattle.tables.specs.Count.{count}
+use Rattle.masks.specs.Rules.{OnCalls}
 use Rattle.filter_propagate.specs.Rules.{RuleBytes}
-use Rattle.filter_propagate.specs.Queue.{IsFlagged, OnCalls}
+use Rattle.filter_propagate.specs.Queue.{IsFlagged}
 use Rattle.filter_relax.specs.Touched.{Touched, NoOwnKill, HasVisited}
 use Rattle.filter_relax.specs.Spread.{isVisited}
 use Rattle.filter_relax.specs.Revive.{Freed}

@@ -2,11 +2,13 @@
 use mathlib.Core.Path.{_≡_}
 use mathlib.Core.List.{List}
 use mathlib.Core.Bool.{Bool}
-use Prim.Native.Nat.{ℕ, _+_, _*_, _≤_, _<_}
+use Prim.Native.Nat.{ℕ, _*_, _≤_, _<_}
 use lib.ListN.{length, getD}
+use Rattle.masks.specs.declared.columns.Columns.{Columns}
 use Rattle.filter_propagate.specs.Rules.{RuleBytes}
 use Rattle.filter_propagate.specs.Queue.{IsFlagged}
 use Rattle.filter_relax.specs.Touched.{KillerVisited}
+use Rattle.filter_relax.specs.Scan.{KillerMet}
 use Rattle.layout.specs.Places.{columnsOf, rowsOf, killerPlace}
 
 -- a byte becomes v where P holds, and stays where it does not
@@ -14,14 +16,17 @@ pub record Replaced (v : ℕ) (P : Type 0) (old new : ℕ) : Type 0 where
   pub written : P → new ≡ v
   pub kept : (P → ⊥) → new ≡ old
 
--- the killer byte of row w of rule q, of n columns
-abbrev pub RowRevived : List ℕ → List ℕ → List Bool → ℕ → ℕ → ℕ → ℕ → ℕ → Type 0
-RowRevived rows scope visited q n w old new = Replaced 255 (KillerVisited rows scope visited q n w old) old new
+-- the killer byte of row w of rule q, whose slot is in the sets of the columns
+abbrev pub MaskRevived : List ℕ → Columns → ℕ → ℕ → ℕ → ℕ → Type 0
+MaskRevived rows sets q w old new = Replaced 255 (KillerMet rows sets q w old) old new
 
 -- row w is one of rule q, and the slot of its killer x is visited
 pub record Freed (R : RuleBytes) (visited : List Bool) (q w x : ℕ) : Type 0 where
   pub row : w < rowsOf (R .lengths) q
   pub killer : KillerVisited (R .rows) (R .scope) visited q (columnsOf (R .arity) q) w x
+
+abbrev pub RuleFreed : RuleBytes → List Bool → ℕ → ℕ → ℕ → ℕ → Type 0
+RuleFreed R visited q w old new = Replaced 255 (Freed R visited q w old) old new
 
 -- the same, and rule q is pending
 pub record PendingFreed (R : RuleBytes) (visited pending : List Bool) (q w x : ℕ) : Type 0 where

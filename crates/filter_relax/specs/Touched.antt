@@ -2,7 +2,7 @@
 use mathlib.Core.Path.{_≡_}
 use mathlib.Core.List.{List}
 use mathlib.Core.Bool.{Bool}
-use Prim.Native.Nat.{ℕ, _+_, _*_, _/_, _<_}
+use Prim.Native.Nat.{ℕ, _/_, _<_}
 use lib.ListN.{getD}
 use Rattle.tables.specs.Assign.{Below}
 use Rattle.filter_propagate.specs.Rules.{RuleBytes}
@@ -66,3 +66,8 @@ HasVisited visited c = (s : ℕ) × (s < 32) × IsFlagged visited (slotPlace c s
 -- the flagged calls cover the visited
 abbrev pub Covers : List Bool → List Bool → Type 0
 Covers flags visited = (j : ℕ) → IsFlagged visited j → IsFlagged flags (j / 32)
+
+-- they are exactly the calls with a visited slot
+pub record CallsVisited (flags visited : List Bool) : Type 0 where
+  pub covers : Covers flags visited
+  pub only : (c : ℕ) → IsFlagged flags c → HasVisited visited c

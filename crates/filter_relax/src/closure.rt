@@ -1,40 +1,19 @@
 // The touched slots: the visited grow to the smallest set that has them and every slot that stands in a row of its cause whose
 // killer's slot is in the set. Pending rules are scanned one after another, until none is pending.
-use layout::value::SLOTS;
 ghost use mathlib.Core.Path.{_≡_};
 ghost use Prim.Native.Nat.{_<_};
 ghost use lib.ListN.{length};
-ghost use Rattle.tables.specs.Assign.{Flagged};
+ghost use Rattle.tables.specs.Masks.{Has, flagsOf, allFlags};
+ghost use Rattle.masks.specs.Rules.{RulesOn};
 ghost use Rattle.filter_propagate.specs.Rules.{rulesIn};
-ghost use Rattle.filter_propagate.specs.Bounds.{PendingRule};
-ghost use Rattle.filter_propagate.specs.Queue.{IsFlagged};
-ghost use Rattle.filter_relax.specs.Touched.{Covers};
-ghost use Rattle.filter_relax.specs.Bounds.{VisitTables};
-ghost use Rattle.filter_relax.specs.Closure.{FlagAt, traversalIn, Expanded, Closed};
+ghost use Rattle.filter_relax.specs.Touched.{CallsVisited};
+ghost use Rattle.filter_relax.specs.Closure.{traversal, Expanded, Closed};
 ghost use Rattle.layout.specs.Bounds.{Sizes};
 
-// Sets flag c where it is set in `more`.
-pub fn merge_flag(flags: &mut [bool; 32], more: &[bool; 32], c: usize)
-    requires { ⌜ length (now flags) ≡ 32 ⌝ }
-    requires { ⌜ c < 32 ⌝ }
-    ensures { λ _. ⌜ Flagged (FlagAt (now (more .entry)) c) (now (flags .entry)) (now (flags .exit)) ⌝ }
-{
-    if more[c] {
-        flags[c] = true;
-    }
-}
-
-// The same for all flags.
-pub fn merge(flags: &mut [bool; 32], more: &[bool; 32])
-    requires { ⌜ length (now flags) ≡ 32 ⌝ }
-    requires { ⌜ length (now more) ≡ 32 ⌝ }
-    ensures { λ _. ⌜ Flagged (IsFlagged (now (more .entry))) (now (flags .entry)) (now (flags .exit)) ⌝ }
-{
-    let mut c = 0;
-    while c < 32 {
-        merge_flag(flags, more, c);
-        c += 1;
-    }
+// The calls with a visited slot, and the rules that are to be scanned.
+pub struct Frontier {
+    pub calls: u32,
+    pub pending: u64,
 }
 
 // One step: the pending rule q is scanned, and the other rules on a call with a new visited slot become pending. Rule q itself need not:
@@ -46,39 +25,30 @@ pub fn expand(
     arity: &[u8; 64],
     scope: &[u8; 256],
     lengths: &[u8; 64],
-    visited: &mut [bool; SLOTS],
-    flagged: &mut [bool; 32],
-    pending: &mut [bool; 64],
+    on: &[u64; 32],
+    visited: &mut [u32; 32],
+    front: Frontier,
     q: usize,
-)
+) -> Frontier
     requires { ⌜ Sizes (now rows) (now killers) (now slots) ⌝ }
-    requires { ⌜ VisitTables (now visited) (now flagged) ⌝ }
-    requires { ⌜ PendingRule (now pending) q ⌝ }
-    ensures { λ _. ⌜ Expanded
+    requires { ⌜ length (now visited) ≡ 32 ⌝ }
+    requires { ⌜ RulesOn (now arity) (now scope) (now on) ⌝ }
+    requires { ⌜ q < 64 ⌝ }
+    requires { ⌜ Has (front .pending) q ⌝ }
+    ensures { λ r. ⌜ Expanded
         (rulesIn (rows .entry) (arity .entry) (scope .entry) (lengths .entry)) (now (killers .entry))
-        (now (slots .entry)) q (traversalIn (visited .entry) (flagged .entry) (pending .entry))
-        (traversalIn (visited .exit) (flagged .exit) (pending .exit)) ⌝ }
+        (now (slots .entry)) q
+        (traversal (allFlags 32 (now (visited .entry))) (flagsOf 32 (front .calls)) (flagsOf 64 (front .pending)))
+        (traversal (allFlags 32 (now (visited .exit))) (flagsOf 32 (r .calls)) (flagsOf 64 (r .pending))) ⌝ }
 {
-    pending[q] = false;
-    let mut changed = [false; 32];
-    let n = crate::scan::scan_rule(
-        rows,
-        killers,
-        slots,
-        arity,
-        scope,
-        lengths,
-        visited,
-        &mut changed,
-        q,
-    );
-    if n > 0 {
-        filter_propagate::queue::enqueue(arity, scope, &changed, pending, q);
-        merge(flagged, &changed);
+    let changed = crate::scan::scan_rule(rows, killers, slots, arity, scope, lengths, visited, q);
+    Frontier {
+        calls: front.calls | changed,
+        pending: masks::rules::enqueue(on, changed, front.pending, q),
     }
 }
 
-// Scans pending rules, at first those on the flagged calls, until none is pending.
+// Scans pending rules, at first those on the calls of the mask, until none is pending. The calls with a visited slot.
 pub fn close(
     rows: &[u8],
     killers: &[u8],
@@ -86,33 +56,38 @@ pub fn close(
     arity: &[u8; 64],
     scope: &[u8; 256],
     lengths: &[u8; 64],
-    visited: &mut [bool; SLOTS],
-    flagged: &mut [bool; 32],
-    pending: &mut [bool; 64],
-)
+    on: &[u64; 32],
+    visited: &mut [u32; 32],
+    calls: u32,
+) -> u32
     requires { ⌜ Sizes (now rows) (now killers) (now slots) ⌝ }
-    requires { ⌜ VisitTables (now visited) (now flagged) ⌝ }
-    requires { ⌜ length (now pending) ≡ 64 ⌝ }
-    requires { ⌜ Covers (now flagged) (now visited) ⌝ }
-    ensures { λ _. ⌜ Closed
+    requires { ⌜ length (now visited) ≡ 32 ⌝ }
+    requires { ⌜ RulesOn (now arity) (now scope) (now on) ⌝ }
+    requires { ⌜ CallsVisited (flagsOf 32 calls) (allFlags 32 (now visited)) ⌝ }
+    ensures { λ r. ⌜ Closed
         (rulesIn (rows .entry) (arity .entry) (scope .entry) (lengths .entry)) (now (killers .entry))
-        (now (slots .entry)) (now (visited .entry)) (traversalIn (visited .exit) (flagged .exit) (pending .exit)) ⌝ }
+        (now (slots .entry)) (allFlags 32 (now (visited .entry)))
+        (traversal (allFlags 32 (now (visited .exit))) (flagsOf 32 r) (flagsOf 64 0)) ⌝ }
 {
-    filter_propagate::queue::enqueue(arity, scope, flagged, pending, 64);
-    let mut q = filter_propagate::queue::next_pending(pending);
+    let mut front = Frontier {
+        calls,
+        pending: masks::rules::rules_on(on, calls),
+    };
+    let mut q = masks::rules::next_rule(front.pending, 63);
     while q < 64 {
-        expand(
+        front = expand(
             rows,
             killers,
             slots,
             arity,
             scope,
             lengths,
+            on,
             visited,
-            flagged,
-            pending,
+            front,
             q,
         );
-        q = filter_propagate::queue::next_pending(pending);
+        q = masks::rules::next_rule(front.pending, q);
     }
+    front.calls
 }

@@ -1,24 +1,30 @@
 // Relaxation over the lent bytes: from a seed of visited slots, the slots touched by a retraction are found, reopened and counted, and
 // the rows that they killed live again. All of it is safe and ends on any contents of the buffers; what it means on a board is
 // for the crates above.
+pub mod visit; // slots join the visited
 pub mod seed; // the slots with a rule as their cause
 pub mod scan; // the walk over a rule's rows: visited by visited killers
 pub mod closure; // the closure of the visited
 pub mod reopen; // the visited slots get one byte
 pub mod revive; // the rows killed by visited slots live again
 
-use layout::value::SLOTS;
 ghost use mathlib.Core.Path.{_≡_};
 ghost use lib.ListN.{length};
+ghost use Rattle.tables.specs.Masks.{flagsOf, allFlags};
+ghost use Rattle.masks.specs.Rules.{RulesOn};
 ghost use Rattle.filter_propagate.specs.Rules.{rulesIn};
 ghost use Rattle.filter_propagate.specs.Queue.{IsFlagged};
-ghost use Rattle.filter_relax.specs.Bounds.{VisitTables};
-ghost use Rattle.filter_relax.specs.Touched.{Covers};
+ghost use Rattle.filter_relax.specs.Touched.{CallsVisited};
 ghost use Rattle.filter_relax.specs.Relaxed.{Relaxed};
 ghost use Rattle.layout.specs.Bounds.{Sizes};
 
-// From the visited of a seed, whose calls are flagged, to the touched slots: they get the byte b, and the rows that they killed
-// live again. Whatever was pending, at the end the rules on the call of a touched slot are. The number of slots touched.
+// How many slots were touched, and the rules on the call of one of them.
+pub struct Relaxation {
+    pub touched: usize,
+    pub pending: u64,
+}
+
+// From the visited of a seed, on the calls of the mask, to the touched slots: they get the byte b, and the rows that they killed live again.
 pub fn relax(
     rows: &[u8],
     killers: &mut [u8],
@@ -26,34 +32,33 @@ pub fn relax(
     arity: &[u8; 64],
     scope: &[u8; 256],
     lengths: &[u8; 64],
-    visited: &mut [bool; SLOTS],
-    flagged: &mut [bool; 32],
-    pending: &mut [bool; 64],
+    on: &[u64; 32],
+    visited: &mut [u32; 32],
+    calls: u32,
     b: u8,
-) -> usize
+) -> Relaxation
     requires { ⌜ Sizes (now rows) (now killers) (now slots) ⌝ }
-    requires { ⌜ VisitTables (now visited) (now flagged) ⌝ }
-    requires { ⌜ length (now pending) ≡ 64 ⌝ }
-    requires { ⌜ Covers (now flagged) (now visited) ⌝ }
-    ensures { λ t. ⌜ Relaxed
-        (rulesIn (rows .entry) (arity .entry) (scope .entry) (lengths .entry)) (IsFlagged (now (visited .entry)))
-        b t (now (killers .entry)) (now (killers .exit)) (now (slots .entry)) (now (slots .exit))
-        (now (visited .exit)) (now (pending .exit)) ⌝ }
+    requires { ⌜ length (now visited) ≡ 32 ⌝ }
+    requires { ⌜ RulesOn (now arity) (now scope) (now on) ⌝ }
+    requires { ⌜ CallsVisited (flagsOf 32 calls) (allFlags 32 (now visited)) ⌝ }
+    ensures { λ r. ⌜ Relaxed
+        (rulesIn (rows .entry) (arity .entry) (scope .entry) (lengths .entry))
+        (IsFlagged (allFlags 32 (now (visited .entry)))) b (r .touched) (now (killers .entry)) (now (killers .exit))
+        (now (slots .entry)) (now (slots .exit)) (allFlags 32 (now (visited .exit))) (flagsOf 64 (r .pending)) ⌝ }
 {
-    closure::close(
+    let seen = closure::close(
         rows,
         killers,
         slots,
         arity,
         scope,
         lengths,
+        on,
         visited,
-        flagged,
-        pending,
+        calls,
     );
-    let mut reopened = [false; 32];
-    let t = reopen::reopen_calls(slots, visited, flagged, &mut reopened, b);
-    filter_propagate::queue::enqueue(arity, scope, &reopened, pending, 64);
+    let touched = reopen::reopen_calls(slots, visited, seen, b);
+    let pending = masks::rules::rules_on(on, seen);
     revive::revive_rules(rows, killers, arity, scope, lengths, visited, pending);
-    t
+    Relaxation { touched, pending }
 }

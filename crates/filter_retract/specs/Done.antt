@@ -4,11 +4,13 @@ use mathlib.Core.List.{List}
 use mathlib.Core.Logic.{_⊎_}
 use mathlib.Core.Bool.{Bool, false}
 use Prim.Native.Nat.{ℕ, _*_, _-_}
-use lib.ListN.{set}
+use lib.ListN.{length, set}
+use Rattle.tables.specs.Masks.{flagsOf, allFlags}
 use Rattle.tables.specs.Sweep.{Swept}
 use Rattle.filter_propagate.specs.Rules.{RuleBytes, reached}
+use Rattle.filter_propagate.specs.Queue.{IsFlagged}
 use Rattle.filter_propagate.specs.Steps.{Propagated}
-use Rattle.filter_relax.specs.Touched.{Seeded}
+use Rattle.filter_relax.specs.Touched.{Seeded, CallsVisited}
 use Rattle.filter_relax.specs.Relaxed.{Relaxed}
 use Rattle.filter_post.specs.Write.{RuleWritten}
 use Rattle.layout.specs.Places.{columnsOf}
@@ -27,10 +29,19 @@ pub record RuleCleared (p : ℕ) (R R′ : RuleBytes) (killers killers′ : List
 abbrev pub CausedBy : ℕ → RuleBytes → List ℕ → ℕ → Type 0
 CausedBy p R slots = Seeded slots (R .scope) p (columnsOf (R .arity) p)
 
--- the reopening of what rule p touched, with the visited that it used
-pub record Reopening (p : ℕ) (R : RuleBytes) (touched : ℕ) (killers revived slots opened : List ℕ) (pending : List Bool) : Type 0 where
-  pub visited : List Bool
-  pub relaxed : Relaxed R (CausedBy p R slots) 255 touched killers revived slots opened visited pending
+-- the visited are the slots whose cause is p, and `calls` is the mask of the calls that have one
+pub record Seeding (p : ℕ) (R : RuleBytes) (slots visited : List ℕ) (calls : ℕ) : Type 0 where
+  pub size : length visited ≡ 32
+  pub has : (j : ℕ) → CausedBy p R slots j → IsFlagged (allFlags 32 visited) j
+  pub only : (j : ℕ) → IsFlagged (allFlags 32 visited) j → CausedBy p R slots j
+  pub calls-visited : CallsVisited (flagsOf 32 calls) (allFlags 32 visited)
+
+-- rule p is cleared, and of the rules that are pending all but p are revised, until none is: `again` slots are struck
+pub record StruckAgain (p again : ℕ) (pending : List Bool) (R R′ : RuleBytes) (killers killers′ slots slots′ : List ℕ) : Type 0 where
+  pub emptied : List ℕ
+  pub cleared : RuleCleared p R R′ killers emptied
+  pub flags : List Bool
+  pub propagated : Propagated R′ again (reached emptied slots (set pending p false)) (reached killers′ slots′ flags)
 
 -- no slot has the cause p: the slots stay
 pub record Quiet (p : ℕ) (R R′ : RuleBytes) (killers killers′ slots slots′ : List ℕ) (reopened touched : ℕ) : Type 0 where

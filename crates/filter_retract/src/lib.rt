@@ -3,14 +3,15 @@
 // Proved: it is safe and ends on any contents of the buffers, and on a stored board it leaves the board stored without the rule (specs/Stored.antt).
 // Assumed: nothing.
 use layout::value::RuleData;
-use layout::value::SLOTS;
 ghost use mathlib.Core.Path.{_≡_};
 ghost use Prim.Native.Nat.{_*_, _-_, _<_};
 ghost use lib.ListN.{length};
 ghost use Rattle.tables.specs.Sweep.{Swept};
+ghost use Rattle.tables.specs.Masks.{flagsOf};
+ghost use Rattle.masks.specs.Rules.{RulesOn};
 ghost use Rattle.filter_propagate.specs.Rules.{rulesIn};
 ghost use Rattle.filter_post.specs.Write.{Writable};
-ghost use Rattle.filter_retract.specs.Done.{Emptied, RuleCleared, Reopening, Reworked, RetractDone};
+ghost use Rattle.filter_retract.specs.Done.{Emptied, RuleCleared, Seeding, StruckAgain, Reworked, RetractDone};
 ghost use Rattle.layout.specs.Bounds.{Sizes};
 ghost use Rattle.layout.specs.Sizes.{killersLength};
 
@@ -53,43 +54,34 @@ pub fn clear_rule(
     clear_killers(killers, p);
 }
 
-// What rule p struck reopens, with all that leaned on it. The rules on the reopened calls are pending at the end.
-pub fn reopen(
-    rows: &[u8],
+// Rule p is cleared, also in the table of the rules on each call, and the other pending rules are revised. The number of slots struck.
+pub fn strike_again(
+    rows: &mut [u8],
     killers: &mut [u8],
     slots: &mut [u8],
-    arity: &[u8; 64],
-    scope: &[u8; 256],
-    lengths: &[u8; 64],
-    pending: &mut [bool; 64],
+    arity: &mut [u8; 64],
+    scope: &mut [u8; 256],
+    lengths: &mut [u8; 64],
+    on: &mut [u64; 32],
+    pending: u64,
     p: usize,
 ) -> usize
     requires { ⌜ Sizes (now rows) (now killers) (now slots) ⌝ }
-    requires { ⌜ length (now pending) ≡ 64 ⌝ }
-    requires { ⌜ p < 64 ⌝ }
-    ensures { λ t. ⌜ Reopening
-        p (rulesIn (rows .entry) (arity .entry) (scope .entry) (lengths .entry)) t (now (killers .entry))
-        (now (killers .exit)) (now (slots .entry)) (now (slots .exit)) (now (pending .exit)) ⌝ }
+    requires { ⌜ Writable p (rulesIn rows arity scope lengths) ⌝ }
+    requires { ⌜ RulesOn (now arity) (now scope) (now on) ⌝ }
+    ensures { λ r. ⌜ StruckAgain
+        p r (flagsOf 64 pending) (rulesIn (rows .entry) (arity .entry) (scope .entry) (lengths .entry))
+        (rulesIn (rows .exit) (arity .exit) (scope .exit) (lengths .exit)) (now (killers .entry))
+        (now (killers .exit)) (now (slots .entry)) (now (slots .exit)) ⌝ }
 {
-    let n = layout::places::cap(arity[p], 4);
-    let mut visited = [false; SLOTS];
-    let mut flagged = [false; 32];
-    filter_relax::seed::visit_seed(slots, scope, &mut visited, &mut flagged, p, n);
-    filter_relax::relax(
-        rows,
-        killers,
-        slots,
-        arity,
-        scope,
-        lengths,
-        &mut visited,
-        &mut flagged,
-        pending,
-        255,
-    )
+    clear_rule(rows, killers, arity, scope, lengths, p);
+    masks::rules::drop_rule(on, p);
+    let left = masks::rules::without(pending, p);
+    filter_propagate::propagate(rows, killers, slots, arity, scope, lengths, on, left)
 }
 
-// The retraction of a rule that struck something.
+// The retraction of a rule that struck something: the slots that are visited, on the calls of the mask. They reopen, with all that leaned on them, and the rules on
+// the reopened calls are revised.
 pub fn retract_struck(
     rows: &mut [u8],
     killers: &mut [u8],
@@ -97,31 +89,45 @@ pub fn retract_struck(
     arity: &mut [u8; 64],
     scope: &mut [u8; 256],
     lengths: &mut [u8; 64],
+    visited: &mut [u32; 32],
+    calls: u32,
     p: usize,
 ) -> Retraction
     requires { ⌜ Sizes (now rows) (now killers) (now slots) ⌝ }
     requires { ⌜ Writable p (rulesIn rows arity scope lengths) ⌝ }
+    requires { ⌜ Seeding p (rulesIn rows arity scope lengths) (now slots) (now visited) calls ⌝ }
     ensures { λ r. ⌜ Reworked
         p (rulesIn (rows .entry) (arity .entry) (scope .entry) (lengths .entry))
         (rulesIn (rows .exit) (arity .exit) (scope .exit) (lengths .exit)) (now (killers .entry))
         (now (killers .exit)) (now (slots .entry)) (now (slots .exit)) (r .reopened) (r .touched) ⌝ }
 {
-    let mut pending = [false; 64];
-    let touched = reopen(rows, killers, slots, arity, scope, lengths, &mut pending, p);
-    clear_rule(rows, killers, arity, scope, lengths, p);
-    pending[p] = false;
-    let again = filter_propagate::propagate(
+    let mut on = masks::rules::rules_on_calls(arity, scope);
+    let relaxed = filter_relax::relax(
         rows,
         killers,
         slots,
         arity,
         scope,
         lengths,
-        &mut pending,
+        &on,
+        visited,
+        calls,
+        255,
+    );
+    let again = strike_again(
+        rows,
+        killers,
+        slots,
+        arity,
+        scope,
+        lengths,
+        &mut on,
+        relaxed.pending,
+        p,
     );
     Retraction {
-        reopened: difference(touched, again),
-        touched,
+        reopened: difference(relaxed.touched, again),
+        touched: relaxed.touched,
     }
 }
 
@@ -150,13 +156,24 @@ pub fn retract(
         (now (killers .exit)) (now (slots .entry)) (now (slots .exit)) (r .reopened) (r .touched) ⌝ }
 {
     let n = layout::places::cap(arity[p], 4);
-    if filter_relax::seed::caused_any(slots, scope, p, n) {
-        retract_struck(rows, killers, slots, arity, scope, lengths, p)
-    } else {
+    let mut visited = [0u32; 32];
+    let calls = filter_relax::seed::visit_seed(slots, scope, &mut visited, p, n);
+    if calls == 0 {
         clear_rule(rows, killers, arity, scope, lengths, p);
-        Retraction {
+        return Retraction {
             reopened: 0,
             touched: 0,
-        }
+        };
     }
+    retract_struck(
+        rows,
+        killers,
+        slots,
+        arity,
+        scope,
+        lengths,
+        &mut visited,
+        calls,
+        p,
+    )
 }

@@ -1,20 +1,13 @@
--- The write leaves the lengths as they are, so propagation can follow it.
+-- The rule is written, and propagation starts from it.
 use borrow.Author.Needs.{needs}
 use Rattle.filter_post.proofs.post.Statement.{statement}
 use Rattle.filter_post.proofs.post.Tie as tie
-use Rattle.filter_post.specs.Laws.Post.{written-sizes}
 
 write-rule-requires : tie.Need-write-rule-requires
 write-rule-requires c κs = search needs
 
-array-write-pending : tie.Need-array-write-pending
-array-write-pending c = search needs
-
-propagate-requires : tie.Need-propagate-requires
-propagate-requires c κs =
-    let w = c .before .before .before .before .before .before .before .before .before in
-    let s = w .before .before .before .before .before .before .before .before in
-    (written-sizes (w .write-rule .ensures) (s .pre .0), search needs)
+propagate-from-requires : tie.Need-propagate-from-requires
+propagate-from-requires c κs = search needs
 
 same-length : tie.Need-same-length
 same-length c = search needs
@@ -29,9 +22,9 @@ returns : tie.Need-returns
 returns c =
     let v = c .before .before .before .before in
     record {
-      written = v .before .before .before .before .before .before .before .before .before .before .write-rule .ensures;
+      written = v .before .before .before .before .before .before .before .before .before .write-rule .ensures;
       flags = _;
-      propagated = v .propagate .ensures;
+      propagated = v .propagate-from .ensures;
     }
 
 pub post-spec : {M : Type 1} → statement M
@@ -39,8 +32,7 @@ post-spec =
     tie.close
     (tie.spec
     write-rule-requires
-    array-write-pending
-    propagate-requires
+    propagate-from-requires
     same-length
     same-length-2
     same-length-3

@@ -24,7 +24,8 @@ use Rattle.filter_meaning.specs.Rules.{bytesIn}
 use Rattle.filter_meaning.specs.Working.{Working}
 use Rattle.filter_post.specs.Write.{RuleWritten}
 use Rattle.filter_post.specs.Rules.{withRuleHeads}
-use Rattle.filter_post.specs.Post.{onlyRule, PostDone}
+use Rattle.filter_propagate.specs.Queue.{onlyRule}
+use Rattle.filter_post.specs.Post.{PostDone}
 use Rattle.layout.specs.Places.{causeOf, killerOf}
 use Rattle.tables.specs.Laws.Facts.{true-false, eq-or-ne}
 use Rattle.filter_propagate.specs.Laws.Kept.{steps-slots, propagated-lost}

@@ -2,10 +2,9 @@
 use mathlib.Core.Path.{_≡_, sym, _∙_}
 use mathlib.Core.List.{List}
 use mathlib.Core.Logic.{_⊎_, inl, inr, ⊎-elim}
-use mathlib.Core.Bool.{false}
 use Prim.Native.Nat.{ℕ, _+_, _*_, _-_, _≤_, _<_}
 use native.Mathlib.Omega.{arith}
-use lib.ListN.{length, getD, length-set}
+use lib.ListN.{getD}
 use Rattle.tables.specs.Lost.{OnlyLost, lost}
 use Rattle.filter_propagate.specs.Rules.{RuleBytes, Progress}
 use Rattle.filter_propagate.specs.Rows.{Killed}
@@ -45,17 +44,17 @@ revised-killers R p {killers = killers} {killed = killed} {slots = slots} v j =
         (λ ne. inl (x .dead ne))
         (eq-or-ne (getD killers j 0) 255)
 
+pub revised-sizes : {R : RuleBytes} {p r : ℕ} {killers killed slots struck : List ℕ} → Revised R p r killers killed slots struck → (rows : List ℕ) → Sizes rows killers slots → Sizes rows killed struck
+revised-sizes v rows s =
+    record {
+      rows-size = s .rows-size;
+      killers-size = v .kills .len ∙ s .killers-size;
+      slots-size = v .strikes .assigned .len ∙ s .slots-size;
+    }
+
 module _ (R : RuleBytes) {p r : ℕ} {x y : Progress} (st : Stepped R p r x y) where
   pub step-sizes : (rows : List ℕ) → Sizes rows (x .killers) (x .slots) → Sizes rows (y .killers) (y .slots)
-  step-sizes rows s =
-      record {
-        rows-size = s .rows-size;
-        killers-size = st .revised .kills .len ∙ s .killers-size;
-        slots-size = st .revised .strikes .assigned .len ∙ s .slots-size;
-      }
-
-  pub step-pending : length (y .pending) ≡ length (x .pending)
-  step-pending = st .queue .len ∙ length-set (x .pending) p false
+  step-sizes = revised-sizes (st .revised)
 
   pub step-slots : OnlyLost 0 isOpen isStruck (x .slots) (y .slots)
   step-slots = strikes-only (st .rule) (st .revised .strikes)

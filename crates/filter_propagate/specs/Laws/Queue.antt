@@ -1,30 +1,22 @@
--- Which rules become pending, where the flagged calls are put in other words. Assumes nothing.
-use mathlib.Core.Path.{_∙_}
+-- The flags of no pending rule, and of one. Assumes nothing.
+use mathlib.Core.Path.{_≡_, refl, sym, ap, _∙_}
 use mathlib.Core.List.{List}
-use mathlib.Core.Logic.{⊎-elim}
 use mathlib.Core.Bool.{Bool, true, false}
 use Prim.Native.Nat.{ℕ, _<_}
-use native.Mathlib.Omega.{arith}
-use lib.ListN.{replicate, getD-replicate}
-use Rattle.tables.specs.Assign.{Flagged, Any, Below}
-use Rattle.layout.specs.Places.{callOf}
-use Rattle.tables.specs.Laws.Assign.{assign-same}
-use Rattle.tables.specs.Laws.Facts.{true-false}
-use Rattle.filter_propagate.specs.Queue.{IsFlagged, Enqueued}
+use lib.ListN.{set, replicate}
+use lib.Seq.{set-set, set-getD}
+use Rattle.tables.specs.Masks.{flagsOf}
+use Rattle.filter_propagate.specs.Queue.{Idle}
+use Rattle.tables.specs.Laws.Flags.{flag-clear, flags-none}
+use Rattle.tables.specs.Laws.Masks.{has-some}
 
--- where the flagged calls are those of C, the rules on flagged calls are those on calls of C
-pub enqueued-same : (C : ℕ → Type 0) (arity scope : List ℕ) (p : ℕ) (flags : List Bool) {pending after : List Bool} → Flagged C (replicate 32 false) flags
-    → Flagged (Below (Enqueued (IsFlagged flags) arity scope p) 64) pending after → Flagged (Below (Enqueued C arity scope p) 64) pending after
-enqueued-same C arity scope p flags f =
-    assign-same false true Any _ _
-    (λ j x.
-    let y = x .2 in
-    let o = y .2 in
-    (x .0, x .1, (y .0, y .1, (o .0, o .1, f .written (callOf scope (x .0) (o .0)) (o .2) tt))))
-    (λ j x.
-    let y = x .2 in
-    let o = y .2 in
-    (x .0, x .1, (y .0, y .1, (o .0, o .1, holds (callOf scope (x .0) (o .0)) (omega arith) (o .2)))))
-  where
-    holds : (c : ℕ) → c < 32 → IsFlagged flags c → C c
-    holds c lc e = ⊎-elim (λ s. absurd (true-false e (s ∙ getD-replicate 32 c false false lc))) (λ t. t .2) (f .each c)
+-- the mask 0 has no rule
+pub none-idle : Idle (flagsOf 64 0)
+none-idle q l = flag-clear 64 0 q l (λ h. has-some 0 q h refl)
+
+-- the flag of p cleared where it is the only one, and where there is none
+pub only-cleared : (n p : ℕ) → set (set (replicate n false) p true) p false ≡ set (flagsOf n 0) p false
+only-cleared n p = set-set (replicate n false) p true false ∙ ap (λ (l : List Bool). set l p false) (sym (flags-none n))
+
+pub none-cleared : (n p : ℕ) → p < n → set (flagsOf n 0) p false ≡ flagsOf n 0
+none-cleared n p l = rw (flag-clear n 0 p l (λ h. has-some 0 p h refl)) at (set-getD (flagsOf n 0) p false)

@@ -1,21 +1,26 @@
--- Striking, slot by slot and column by column, and which calls are flagged. Assumes nothing.
+-- Striking, slot by slot and column by column, and on which calls. Assumes nothing.
 use mathlib.Core.Path.{_≡_, refl, sym, ap, _∙_}
 use mathlib.Core.List.{List}
 use mathlib.Core.Logic.{_⊎_, inl, inr, ⊎-elim}
-use mathlib.Core.Bool.{Bool, true, false}
-use Prim.Native.Nat.{ℕ, _+_, _*_, _≤_, _<_}
+use mathlib.Core.Bool.{true, false}
+use Prim.Native.Nat.{ℕ, _+_, _*_, _-_, _%_, _^_, _≤_, _<_}
 use native.Mathlib.Omega.{arith}
 use borrow.Author.Tests.{eq-eqb, ne-eqb, eqb-true, lt-ltb, le-ltb, ltb-true}
+use lib.Bits.{bitAnd, bitOr}
+use lib.Count.{trailingZeros}
 use lib.ListN.{length, getD, set}
-use Rattle.tables.specs.Assign.{Flagged, Any, Below}
+use Rattle.tables.specs.Assign.{Below}
 use Rattle.tables.specs.Count.{bit}
 use Rattle.tables.specs.Lost.{OnlyLost}
-use Rattle.layout.specs.Places.{callOf}
+use Rattle.tables.specs.Masks.{Has, IsMask}
+use Rattle.layout.specs.Places.{callOf, slotPlace, causeOf}
 use Rattle.tables.specs.Laws.Count.{count-le, count-set}
-use Rattle.tables.specs.Laws.Assign.{assign-none, assign-more, assign-same, assign-at, assign-set, assign-keep, assign-both}
+use Rattle.tables.specs.Laws.Assign.{assign-none, assign-more, assign-same, assign-at, assign-set, assign-keep}
+use Rattle.tables.specs.Laws.Left.{Left, Taken, Of, left-all, left-lowest, left-more, taken-lowest, assign-lowest, assign-taken}
 use Rattle.tables.specs.Laws.Lost.{only-some, only-same}
 use Rattle.tables.specs.Laws.Facts.{eq-or-ne}
-use Rattle.filter_propagate.specs.Strikes.{isOpen, isStruck, OpenByte, SlotsStruck, CallWith, ColumnWith, Unlisted, StruckOn, ColumnsStruck}
+use Rattle.tables.specs.Laws.Masks.{power-same, power-has, shl-one, has-some, has-below, or-left, or-right, or-either}
+use Rattle.filter_propagate.specs.Strikes.{isOpen, isStruck, OpenByte, SlotsStruck, CallWith, ColumnWith, AllOpen, StruckOn, WithCall, ColumnsStruck}
 
 pub open-not-struck : (x : ℕ) → isOpen x ≡ true → isStruck x ≡ false
 open-not-struck x e = let z = eqb-true x 255 e in le-ltb x 64 (omega arith)
@@ -76,67 +81,133 @@ module _ {Q : ℕ → Type 0} {p r : ℕ} (lp : p < 64) {old new : List ℕ} (x 
       let z : getD new (t .0) 0 < 64 = ltb-true (getD new (t .0) 0) 64 (t .3) in
       (t .0, o, (λ e. omega arith), ⊎-elim (λ e. absurd (omega arith)) (λ u. u .2) (x .assigned .each (t .0)))
 
--- the flags of the changed calls, when one column more is struck
-module _ (N : ℕ → Type 0) (c p : ℕ) (lp : p < 64) {Q : ℕ → Type 0} {h r : ℕ} (old mid new : List ℕ) (x : SlotsStruck Q p h old mid) (y : SlotsStruck (CallWith N c) p r mid new)
-    (changed between : List Bool) (flags : Flagged (StruckOn old mid) changed between) where
-  -- a call that changed did so before, or is c
-  split : (e : ℕ) → StruckOn old new e → StruckOn old mid e ⊎ (e ≡ c)
+-- of a set only the open slots count
+pub strikes-open : (P Q : ℕ → Type 0) {p r : ℕ} {a b : List ℕ} → ((j : ℕ) → Q j → getD a j 0 ≡ 255 → P j) → ((j : ℕ) → P j → Q j) → SlotsStruck P p r a b → SlotsStruck Q p r a b
+strikes-open P Q back forth x =
+    record {
+      assigned = record {
+        len = x .assigned .len;
+        written = λ j q o. x .assigned .written j (back j q o) o;
+        each = λ j. ⊎-elim (λ e. inl e) (λ t. inr (t .0, t .1, forth j (t .2))) (x .assigned .each j);
+      };
+      drop = x .drop;
+    }
+
+-- THE SLOTS OF A MASK, from the lowest on: those that are not left are struck
+pub record Striking (lost p c : ℕ) (old new : List ℕ) (left total : ℕ) : Type 0 where
+  pub lowest-first : Left 32 lost left
+  pub struck : SlotsStruck (Of (λ s j. j ≡ slotPlace c s) (Taken lost left)) p total old new
+
+pub striking-none : (lost p c : ℕ) (l : List ℕ) → lost < 4294967296 → Striking lost p c l l lost 0
+striking-none lost p c l h = record { lowest-first = left-all 32 lost h; struck = strikes-keep _ p l (λ j q o. q .1 .out (q .1 .had)) }
+
+module _ {lost p c : ℕ} {old new : List ℕ} {left total : ℕ} (all : AllOpen old c lost) (some : left ≡ 0 → ⊥) (x : Striking lost p c old new left total) where
+  pub slot-below : trailingZeros 32 left < 32
+  slot-below = left-lowest some (x .lowest-first) .place
+
+  -- the lowest slot is open still
+  still-open : getD new (slotPlace c (trailingZeros 32 left)) 0 ≡ 255
+  still-open =
+      ⊎-elim
+      (λ e. e ∙ all .each (trailingZeros 32 left) (taken-lowest some (x .lowest-first) .had) .1)
+      (λ t.
+      let q = t .2 in
+      let z = q .2 in
+      let same : q .0 ≡ trailingZeros 32 left = omega arith in
+      absurd (q .1 .out (rw same (left-lowest some (x .lowest-first) .here))))
+      (x .struck .assigned .each (slotPlace c (trailingZeros 32 left)))
+
+  pub striking-more : p < 64 → slotPlace c (trailingZeros 32 left) < length new
+      → Striking lost p c old (set new (slotPlace c (trailingZeros 32 left)) p) (bitAnd left (left - 1)) (total + 1)
+  striking-more lp l =
+      let one = strikes-set (λ j. j ≡ slotPlace c (trailingZeros 32 left)) p (slotPlace c (trailingZeros 32 left)) new lp l still-open refl (λ j q. q) in
+      record {
+        lowest-first = left-more some (x .lowest-first);
+        struck = record {
+          assigned = assign-lowest 0 p OpenByte _ some (x .lowest-first) (x .struck .assigned) (one .assigned);
+          drop = omega (arith, one .drop, x .struck .drop);
+        };
+      }
+
+pub striking-done : {lost p c : ℕ} {old new : List ℕ} {left total : ℕ} → lost < 4294967296 → left ≡ 0 → Striking lost p c old new left total
+    → SlotsStruck (CallWith (Has lost) c) p total old new
+striking-done {lost} {p} {c} fits z x =
+    strikes-same _ _
+    (λ j y. (y .0, y .2 .1, y .2 .0))
+    (λ j y. (y .0, has-below 32 lost (y .0) fits (y .1), (y .2, y .1)))
+    (record { assigned = assign-taken 0 p OpenByte _ z (x .struck .assigned); drop = x .struck .drop })
+
+-- THE CALLS where a slot was struck: a call joins the mask, or the mask stays
+pub call-joins : {calls c number : ℕ} → c < 32 → 0 < number → WithCall calls c number (bitOr calls (1 * 2 ^ c % 4294967296))
+call-joins {calls} {c} l some =
+    rw (shl-one 32 c l)
+    (record {
+      stays = λ d h. or-left calls (2 ^ c) d h;
+      joins = λ s. or-right calls (2 ^ c) c (power-same c);
+      only = λ d h. ⊎-elim (λ o. inl o) (λ o. inr (power-has c d o, some)) (or-either calls (2 ^ c) d h);
+    })
+
+pub call-none : {calls c number : ℕ} → number ≡ 0 → WithCall calls c number calls
+call-none z = record { stays = λ d h. h; joins = λ s. absurd (omega arith); only = λ d h. inl h }
+
+-- when the slots of one call more are struck
+module _ (N : ℕ → Type 0) (c p : ℕ) (lp : p < 64) {Q : ℕ → Type 0} {h r : ℕ} (old mid new : List ℕ) (x : SlotsStruck Q p h old mid) (y : SlotsStruck (CallWith N c) p r mid new) where
+  -- a call where one is struck had one struck before, or is c
+  split : (e : ℕ) → StruckOn old new e → StruckOn old mid e ⊎ ((e ≡ c) × (0 < r))
   split e (s, ls, o, n) =
       ⊎-elim
-      (λ (m : getD mid (32 * e + s) 0 ≡ 255).
+      (λ (m : causeOf mid e s ≡ 255).
       ⊎-elim
       (λ k. absurd (n (k ∙ m)))
-      (λ t. let w = t .2 in let l = w .1 in let z = w .2 .0 in inr (omega arith))
-      (y .assigned .each (32 * e + s)))
+      (λ t.
+      let w = t .2 in
+      let l = w .1 in
+      let z = w .2 .0 in
+      let some : r ≡ 0 → ⊥ = λ q. n (ap (λ (a : List ℕ). causeOf a e s) (strikes-zero lp y q) ∙ m) in
+      inr (omega arith, omega arith))
+      (y .assigned .each (slotPlace e s)))
       (λ m. inl (s, ls, o, m))
-      (eq-or-ne (getD mid (32 * e + s) 0) 255)
+      (eq-or-ne (causeOf mid e s) 255)
 
-  -- one that had changed has
+  -- one that had one struck has
   stays : (e : ℕ) → StruckOn old mid e → StruckOn old new e
-  stays e (s, ls, o, n) = (s, ls, o, λ m. n (was-open lp y (32 * e + s) m))
+  stays e (s, ls, o, n) = (s, ls, o, λ m. n (was-open lp y (slotPlace e s) m))
 
   -- and so has c, where a slot of it is struck
   here : 0 < r → StruckOn old new c
   here lt =
       let t = strikes-some lp y lt in
       let w = t .3 in
-      let e : t .0 ≡ 32 * c + w .0 = w .2 .0 in
-      (w .0, w .1, was-open lp x (32 * c + w .0) (rw e at (t .1)), rw e at (t .2))
+      let e : t .0 ≡ slotPlace c (w .0) = w .2 .0 in
+      (w .0, w .1, was-open lp x (slotPlace c (w .0)) (rw e at (t .1)), rw e at (t .2))
 
-  pub flags-set : 0 < r → c < length between → Flagged (StruckOn old new) changed (set between c true)
-  flags-set lt lc =
-      assign-same false true Any _ _ split (λ e. ⊎-elim (stays e) (λ (q : e ≡ c). rw q (here lt)))
-      (assign-both false true Any _ (λ e. e ≡ c) _ _ _ flags (assign-set false true Any (λ e. e ≡ c) c between lc tt refl (λ e q. q)))
-
-  pub flags-keep : r ≡ 0 → Flagged (StruckOn old new) changed between
-  flags-keep e = rw (strikes-zero lp y e) flags
-
--- the loop over the columns: before the first, and after the last
-pub columns-none : (supported : List Bool) (scope : List ℕ) (p : ℕ) (l : List ℕ) (changed : List Bool) → ColumnsStruck supported scope p 0 0 l l changed changed
-columns-none supported scope p l changed =
-    record {
-      strikes = strikes-none _ p l;
-      flags = assign-keep false true Any _ changed (λ c x f. absurd (x .3 (x .2)));
-    }
-
-pub columns-at : (supported : List Bool) (scope : List ℕ) (p : ℕ) {k n h : ℕ} {a b : List ℕ} {changed after : List Bool} → ColumnsStruck supported scope p k h a b changed after
-    → k ≤ n → n ≤ k → ColumnsStruck supported scope p n h a b changed after
-columns-at supported scope p x l g = record { strikes = strikes-at _ p (x .strikes) l g; flags = x .flags }
-
--- one column more
-module _ (supported : List Bool) (scope : List ℕ) (p k : ℕ) (lp : p < 64) {h r : ℕ} {a b d : List ℕ} {changed between : List Bool}
-    (x : ColumnsStruck supported scope p k h a b changed between) (y : SlotsStruck (ColumnWith (Unlisted supported) scope p k) p r b d) where
-  pub columns-set : 0 < r → length changed ≡ 32 → ColumnsStruck supported scope p (k + 1) (h + r) a d changed (set between (callOf scope p k) true)
-  columns-set lt l =
-      let e = x .flags .len in
+  pub calls-more : {calls after : ℕ} → c < 32 → IsMask (StruckOn old mid) 32 calls → WithCall calls c r after → IsMask (StruckOn old new) 32 after
+  calls-more {calls} {after} lc m w =
       record {
-        strikes = strikes-more (ColumnWith (Unlisted supported) scope p) p (x .strikes) y;
-        flags = flags-set (Unlisted supported k) (callOf scope p k) p lp a b d (x .strikes) y changed between (x .flags) lt (omega arith);
+        has = λ e le s. ⊎-elim (λ o. w .stays e (m .has e le o)) (λ t. rw (t .0) (w .joins (t .1))) (split e s);
+        only = λ e i.
+            ⊎-elim
+            (λ o. let f = m .only e o in (f .0, stays e (f .1)))
+            (λ t. let q : e ≡ c = t .0 in rw q (lc, here (t .1)))
+            (w .only e i);
       }
 
-  pub columns-keep : r ≡ 0 → ColumnsStruck supported scope p (k + 1) (h + r) a d changed between
-  columns-keep e =
+-- the loop over the columns: before the first, one more, and after the last
+module _ (N : ℕ → ℕ → Type 0) (scope : List ℕ) (p : ℕ) where
+  pub columns-none : (l : List ℕ) → ColumnsStruck N scope p 0 0 0 l l
+  columns-none l =
       record {
-        strikes = strikes-more (ColumnWith (Unlisted supported) scope p) p (x .strikes) y;
-        flags = flags-keep (Unlisted supported k) (callOf scope p k) p lp a b d (x .strikes) y changed between (x .flags) e;
+        strikes = strikes-none _ p l;
+        calls-struck = record { has = λ c lc x. absurd (x .3 (x .2)); only = λ c h. absurd (has-some 0 c h refl) };
       }
+
+  pub columns-more : {k h r calls after : ℕ} {a b d : List ℕ} → p < 64 → ColumnsStruck N scope p k h calls a b → SlotsStruck (ColumnWith N scope p k) p r b d
+      → WithCall calls (callOf scope p k) r after → ColumnsStruck N scope p (k + 1) (h + r) after a d
+  columns-more {k} {a = a} {b = b} {d = d} lp x y w =
+      record {
+        strikes = strikes-more (ColumnWith N scope p) p (x .strikes) y;
+        calls-struck = calls-more (N k) (callOf scope p k) p lp a b d (x .strikes) y (omega arith) (x .calls-struck) w;
+      }
+
+  pub columns-at : {k n h calls : ℕ} {a b : List ℕ} → ColumnsStruck N scope p k h calls a b → k ≤ n → n ≤ k → ColumnsStruck N scope p n h calls a b
+  columns-at x l g = record { strikes = strikes-at _ p (x .strikes) l g; calls-struck = x .calls-struck }

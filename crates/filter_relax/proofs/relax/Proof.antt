@@ -1,8 +1,9 @@
--- The closure, the reopening, the enqueuing and the reviving: `relaxed` joins the four.
+-- The closure, the reopening, the pending rules and the reviving: `relaxed` joins the four.
+use Rattle.filter_propagate.specs.Rules.{rulesIn}
+use Rattle.filter_relax.specs.Laws.Relaxed.{relaxed}
 use borrow.Author.Needs.{needs}
 use Rattle.filter_relax.proofs.relax.Statement.{statement}
 use Rattle.filter_relax.proofs.relax.Tie as tie
-use Rattle.filter_relax.specs.Laws.Relaxed.{relaxed}
 
 close-requires : tie.Need-close-requires
 close-requires c κs = search needs
@@ -10,13 +11,11 @@ close-requires c κs = search needs
 reopen-calls-requires : tie.Need-reopen-calls-requires
 reopen-calls-requires c κs = search needs
 
-enqueue-requires : tie.Need-enqueue-requires
-enqueue-requires c κs = search needs
+rules-on-requires : tie.Need-rules-on-requires
+rules-on-requires c κs = search needs
 
 revive-rules-requires : tie.Need-revive-rules-requires
-revive-rules-requires c κs =
-    let a = c .before .before .before .before .before .before .before .before .before .before .before .before .before .before .before .before .before .before .before .before .before .before .pre .0 in
-    record { rows-size = a .rows-size; killers-size = a .killers-size }
+revive-rules-requires c κs = search needs
 
 same-length : tie.Need-same-length
 same-length c = search needs
@@ -26,11 +25,12 @@ same-length-2 c = search needs
 
 returns : tie.Need-returns
 returns c =
-    relaxed _ _ _
-    (c .before .before .before .before .before .before .before .before .before .before .before .before .before .before .before .before .close .ensures)
-    (c .before .before .before .before .before .before .before .before .before .before .before .reopen-calls .ensures)
-    (c .before .before .before .before .before .before .enqueue .ensures)
-    (c .before .before .revive-rules .ensures)
+    let revived = c .before .before in
+    let enqueued = revived .before .before .before in
+    let reopened = enqueued .before .before .before in
+    let closed = reopened .before .before .before in
+    let start = closed .before .before .before .before .before .before .before in
+    relaxed (rulesIn (start .args .rows) (start .args .arity) (start .args .scope) (start .args .lengths)) _ _ (closed .close .ensures) (reopened .reopen-calls .ensures) (start .pre .1 .1 .0) (enqueued .rules-on .ensures) (revived .revive-rules .ensures)
 
 pub relax-spec : {M : Type 1} → statement M
 relax-spec =
@@ -38,7 +38,7 @@ relax-spec =
     (tie.spec
     close-requires
     reopen-calls-requires
-    enqueue-requires
+    rules-on-requires
     revive-rules-requires
     same-length
     same-length-2

@@ -1,44 +1,63 @@
--- The closure, the reopening, the enqueuing and the reviving are a relaxation. Assumes nothing.
-use mathlib.Core.Path.{refl, _∙_, _≡_}
+-- The closure, the reopening, the pending rules and the reviving are a relaxation. Assumes nothing.
+use mathlib.Core.Path.{_≡_, _∙_}
 use mathlib.Core.List.{List}
-use mathlib.Core.Logic.{⊎-elim, _⊎_, inl, inr}
+use mathlib.Core.Logic.{_⊎_, inl, inr}
 use mathlib.Core.Bool.{Bool, false}
-use Prim.Native.Nat.{ℕ, _<_, _+_, _*_}
+use Prim.Native.Nat.{ℕ, _+_, _*_, _/_, _<_}
 use native.Mathlib.Omega.{arith}
-use lib.ListN.{replicate, getD}
-use Rattle.tables.specs.Assign.{Flagged, Below}
+use lib.ListN.{length, getD}
+use Rattle.tables.specs.Masks.{Has, flagsOf, allFlags}
+use Rattle.tables.specs.Laws.Facts.{true-false}
+use Rattle.tables.specs.Laws.Flags.{flags-length, flag-set, flag-has, flag-below}
+use Rattle.tables.specs.Laws.Masks.{has-some}
+use Rattle.masks.specs.Rules.{OnCalls, RulesOn, RulesOnAny}
+use Rattle.masks.specs.Laws.Rules.{enqueued-first}
 use Rattle.filter_propagate.specs.Rules.{RuleBytes}
-use Rattle.filter_propagate.specs.Queue.{IsFlagged, Enqueued}
-use Rattle.filter_relax.specs.Touched.{HasVisited, Touched}
+use Rattle.filter_propagate.specs.Queue.{IsFlagged}
+use Rattle.filter_propagate.specs.Stable.{StableBytes}
+use Rattle.filter_propagate.specs.Laws.Stable.{stable-keep}
+use Rattle.layout.specs.Places.{columnsOf, slotOf, rowCell, callOf}
+use Rattle.filter_relax.specs.Reach.{seed, joins}
+use Rattle.filter_relax.specs.Touched.{Touched, CallsVisited}
+use Rattle.filter_relax.specs.Spread.{Blank, Adds}
 use Rattle.filter_relax.specs.Closure.{traversal, Closed}
 use Rattle.filter_relax.specs.Reopen.{Reopened}
 use Rattle.filter_relax.specs.Revive.{Freed, RuleRevived, Blocks}
-use Rattle.layout.specs.Places.{slotOf, rowCell, callOf}
-use Rattle.tables.specs.Laws.Facts.{true-false}
-use Rattle.filter_propagate.specs.Laws.Queue.{enqueued-same}
 use Rattle.filter_relax.specs.Relaxed.{OnVisited, Relaxed}
-use Rattle.filter_propagate.specs.Stable.{StableBytes}
-use Rattle.filter_relax.specs.Reach.{seed, joins}
-use Rattle.filter_relax.specs.Spread.{Blank, Adds}
 use Rattle.filter_relax.specs.Laws.Reach.{reach-join}
-use Rattle.filter_relax.specs.Laws.Seed.{seed-visited, seed-only}
-use Rattle.filter_propagate.specs.Laws.Stable.{stable-keep}
+use Rattle.filter_relax.specs.Laws.Spread.{adds-size}
+use Rattle.filter_relax.specs.Laws.Seed.{seed-visited, seed-calls}
 
 -- a rule with a row whose killer's slot is visited has a column on its call
 pub freed-on : (R : RuleBytes) (visited : List Bool) (q w x : ℕ) → Freed R visited q w x → OnVisited R visited q
 unfolding rowCell
 freed-on R visited q w x f = let k = f .killer in (x, k .column, (slotOf (R .rows) q w x, omega arith, k .slot))
 
--- the closure, then the reopening, the enqueuing of the rules on reopened calls, and the reviving
-pub relaxed : (R : RuleBytes) {b t : ℕ} (killers slots : List ℕ) {revived reopened : List ℕ} {old visited flags idle changed after : List Bool}
-    → Closed R killers slots old (traversal visited flags idle)
-    → Reopened b t visited slots reopened (replicate 32 false) changed
-    → Flagged (Below (Enqueued (IsFlagged changed) (R .arity) (R .scope) 64) 64) idle after
-    → Blocks (RuleRevived R visited after) 64 killers revived
-    → Relaxed R (IsFlagged old) b t killers revived slots reopened visited after
-relaxed R killers slots {visited = visited} {idle = idle} {changed = changed} {after = after} c o e v =
-    let queue = enqueued-same (HasVisited visited) (R .arity) (R .scope) 64 changed (o .calls) e in
-    let on : (q : ℕ) → q < 64 → OnVisited R visited q → IsFlagged after q = λ q lq x. queue .written q (q, lq, (refl, (λ z. omega arith), x)) tt in
+-- a rule has a column on a call of the mask exactly where it has one on the call of a visited slot
+module _ (R : RuleBytes) {visited : List Bool} (calls : ℕ) (all : CallsVisited (flagsOf 32 calls) visited) (q : ℕ) where
+  on-mask : OnVisited R visited q → OnCalls (Has calls) (R .scope) q (columnsOf (R .arity) q)
+  on-mask x =
+      let c = callOf (R .scope) q (x .0) in
+      let h = x .2 in
+      let ls = h .1 in
+      let at : (32 * c + h .0) / 32 ≡ c = omega arith in
+      (x .0, x .1, flag-has 32 calls c (omega arith) (rw at at (all .covers (32 * c + h .0) (h .2))))
+
+  mask-on : OnCalls (Has calls) (R .scope) q (columnsOf (R .arity) q) → OnVisited R visited q
+  mask-on x = let c = callOf (R .scope) q (x .0) in (x .0, x .1, all .only c (flag-set 32 calls c (omega arith) (x .2)))
+
+-- the closure, then the reopening, the rules on reopened calls, and the reviving
+pub relaxed : (R : RuleBytes) {b t calls rules : ℕ} (killers slots : List ℕ) {revived reopened on : List ℕ} {old visited idle : List Bool}
+    → Closed R killers slots old (traversal visited (flagsOf 32 calls) idle)
+    → Reopened b t visited slots reopened
+    → RulesOn (R .arity) (R .scope) on
+    → RulesOnAny on calls rules
+    → Blocks (RuleRevived R visited (flagsOf 64 rules)) 64 killers revived
+    → Relaxed R (IsFlagged old) b t killers revived slots reopened visited (flagsOf 64 rules)
+relaxed R {calls = calls} {rules = rules} killers slots {visited = visited} c o table any v =
+    let queue = enqueued-first table any in
+    let on : (q : ℕ) → q < 64 → OnVisited R visited q → IsFlagged (flagsOf 64 rules) q =
+    λ q lq x. flag-set 64 rules q lq (queue .0 q lq (on-mask R calls (c .calls) q x)) in
     record {
       visited-size = c .sizes .visited .visited-size;
       touched = c .touched;
@@ -50,13 +69,9 @@ relaxed R killers slots {visited = visited} {idle = idle} {changed = changed} {a
       killers-size = v .len;
       row-revived = λ q w lq lw f. v .inside q w lq lw .written (record { flag = on q lq (freed-on R visited q w _ f); freed = f });
       row-kept = λ q w lq lw out. v .inside q w lq lw .kept (λ z. out (z .freed));
-      pending-size = queue .len ∙ c .sizes .pending-size;
+      pending-size = flags-length 64 rules;
       enqueued = on;
-      only-enqueued = λ q lq f.
-          ⊎-elim
-          (λ s. absurd (true-false f (s ∙ c .idle q lq)))
-          (λ t. let x = t .2 in rw (x .2 .0) (x .2 .2))
-          (queue .each q);
+      only-enqueued = λ q lq f. mask-on R calls (c .calls) q (queue .1 q (flag-has 64 rules q lq f) .1);
     }
 
 -- a touched slot is of the seed, or has a cause
@@ -85,11 +100,6 @@ module _ {R : RuleBytes} {b t : ℕ} {killers revived slots reopened : List ℕ}
         only-enqueued = x .only-enqueued;
       }
 
-  -- A RELAXATION FROM SLOTS VISITED AMONG NONE is one from the slots that they were set for: for a retraction of rule p, those with cause p
-  pub relaxed-seed : {Q : ℕ → Type 0} {r : ℕ} {none seeded flags after : List Bool} → Blank none → Adds Q r none seeded flags after
-      → Relaxed R (IsFlagged seeded) b t killers revived slots reopened visited pending → Relaxed R Q b t killers revived slots reopened visited pending
-  relaxed-seed blank a = relaxed-same (seed-only blank a) (seed-visited blank a)
-
   -- A RULE THAT IS NOT PENDING is stable if it was
   module _ {Seed : ℕ → Type 0} (x : Relaxed R Seed b t killers revived slots reopened visited pending) where
     pub stays-stable : (q : ℕ) → q < 64 → getD pending q false ≡ false → StableBytes R killers slots q → StableBytes R revived reopened q
@@ -97,3 +107,10 @@ module _ {R : RuleBytes} {b t : ℕ} {killers revived slots reopened : List ℕ}
         stable-keep R q killers revived slots reopened
         (λ k s lk ls. x .slot-kept (32 * callOf (R .scope) q k + s) (λ o. true-false (x .enqueued q lq (k, lk, (s, ls, o))) off))
         (λ w lw. x .row-kept q w lq (omega arith) (λ f. true-false (x .enqueued q lq (freed-on R visited q w _ f)) off))
+
+-- WHERE THE MASK OF CALLS IS 0 nothing was set
+pub seed-empty : {Q : ℕ → Type 0} {none seeded : List ℕ} {calls : ℕ} → length none ≡ 32 → Blank (allFlags 32 none) → Adds Q none seeded 0 calls → calls ≡ 0 → (j : ℕ) → Q j → ⊥
+seed-empty {calls = calls} size blank a z j q =
+    let l = adds-size a ∙ size in
+    let f = seed-calls l blank a .covers j (seed-visited l blank a j q) in
+    has-some calls (j / 32) (flag-has 32 calls (j / 32) (flag-below 32 calls (j / 32) f) f) z

@@ -1,25 +1,51 @@
 -- The seed of a retraction is what is visited first. Assumes nothing.
-use mathlib.Core.Path.{sym, _∙_}
+use mathlib.Core.Path.{_≡_, sym, _∙_}
 use mathlib.Core.List.{List}
 use mathlib.Core.Logic.{⊎-elim}
-use mathlib.Core.Bool.{Bool}
-use Prim.Native.Nat.{ℕ}
+use Prim.Native.Nat.{ℕ, _/_, _%_, _<_}
+use native.Mathlib.Omega.{arith}
+use lib.ListN.{length}
+use Rattle.tables.specs.Masks.{Has, IsMask, flagsOf, allFlags}
+use Rattle.tables.specs.Laws.Flags.{flags-length, flag-set, flag-has}
+use Rattle.tables.specs.Laws.Masks.{bit-zero}
 use Rattle.filter_propagate.specs.Queue.{IsFlagged}
-use Rattle.filter_relax.specs.Touched.{Covers}
-use Rattle.filter_relax.specs.Bounds.{VisitTables}
-use Rattle.filter_relax.specs.Spread.{Blank, Adds}
+use Rattle.layout.specs.Places.{causeOf, slotPlace}
+use Rattle.filter_relax.specs.Touched.{CallCaused, HasVisited, Covers, CallsVisited}
+use Rattle.filter_relax.specs.Spread.{Blank, CallMask, Adds}
+use Rattle.filter_relax.specs.Laws.Spread.{adds-same, visited-length, flag-in, place-of}
 
--- the tables keep their lengths
-pub seed-tables : {Q : ℕ → Type 0} {r : ℕ} {old new flags after : List Bool} → VisitTables old flags → Adds Q r old new flags after → VisitTables new after
-seed-tables t a = record { visited-size = a .visited .len ∙ t .visited-size; flags-size = a .spread .flags-size ∙ t .flags-size }
+-- the mask of a call's slots with one cause
+pub adds-caused : (slots : List ℕ) (p c : ℕ) {mask : ℕ} {old new : List ℕ} {before after : ℕ} → IsMask (λ s. causeOf slots c s ≡ p) 32 mask → Adds (CallMask c mask) old new before after
+    → Adds (CallCaused slots p c) old new before after
+adds-caused slots p c {mask} m a = adds-same (CallMask c mask) (CallCaused slots p c) back forth a
+  where
+    back : (j : ℕ) → CallCaused slots p c j → CallMask c mask j
+    back j x = (x .0, x .1, x .2 .is, m .has (x .0) (x .1) (rw (x .2 .is) at (x .2 .cause)))
 
--- visited set among none are exactly those of Q, and the flagged calls cover them
-module _ {Q : ℕ → Type 0} {r : ℕ} {none visited flags after : List Bool} (blank : Blank none) (a : Adds Q r none visited flags after) where
-  pub seed-visited : (j : ℕ) → Q j → IsFlagged visited j
+    forth : (j : ℕ) → CallMask c mask j → CallCaused slots p c j
+    forth j x = (x .0, x .1, record { is = x .2; cause = rw (x .2) (m .only (x .0) (x .3) .1) })
+
+-- VISITED AMONG NONE are exactly those of Q, and the calls of the mask are exactly theirs
+module _ {Q : ℕ → Type 0} {none visited : List ℕ} {calls : ℕ} (size : length visited ≡ 32) (blank : Blank (allFlags 32 none)) (a : Adds Q none visited 0 calls) where
+  pub seed-visited : (j : ℕ) → Q j → IsFlagged (allFlags 32 visited) j
   seed-visited j q = a .visited .written j q tt
 
-  pub seed-only : (j : ℕ) → IsFlagged visited j → Q j
+  pub seed-only : (j : ℕ) → IsFlagged (allFlags 32 visited) j → Q j
   seed-only j o = ⊎-elim (λ e. absurd (blank j (sym e ∙ o))) (λ t. t .2) (a .visited .each j)
 
-  pub seed-covers : Covers after visited
-  seed-covers j o = ⊎-elim (λ z. absurd (blank j z)) (λ h. h) (a .spread .calls j o)
+  pub seed-calls : CallsVisited (flagsOf 32 calls) (allFlags 32 visited)
+  seed-calls = record { covers = covers; only = only }
+    where
+      covers : Covers (flagsOf 32 calls) (allFlags 32 visited)
+      covers j o =
+          let l = flag-in (allFlags 32 visited) j o in
+          let lc : j / 32 < 32 = omega (arith, visited-length visited size) in
+          flag-set 32 calls (j / 32) lc (a .joins (j / 32) (j % 32, omega arith, rw (place-of j) (seed-only j o)))
+
+      only : (c : ℕ) → IsFlagged (flagsOf 32 calls) c → HasVisited (allFlags 32 visited) c
+      only c o =
+          let l = flag-in (flagsOf 32 calls) c o in
+          ⊎-elim
+          (λ (z : Has 0 c). absurd (omega (arith, bit-zero c)))
+          (λ x. (x .0, x .1, seed-visited (slotPlace c (x .0)) (x .2)))
+          (a .only c (flag-has 32 calls c (omega (arith, flags-length 32 calls)) o))

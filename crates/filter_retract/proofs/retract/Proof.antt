@@ -1,9 +1,9 @@
 -- A rule that struck something is retracted with what it touched; one that struck nothing has no slot in its seed, and is only cleared.
 use mathlib.Core.Logic.{inl, inr}
+use Rattle.filter_retract.specs.Laws.Done.{seeding, quiet}
 use borrow.Author.Needs.{needs}
 use Rattle.filter_retract.proofs.retract.Statement.{statement}
 use Rattle.filter_retract.proofs.retract.Tie as tie
-use Rattle.filter_retract.specs.Laws.Done.{quiet}
 
 element-copy-out-cap : tie.Need-element-copy-out-cap
 element-copy-out-cap c = search needs
@@ -11,11 +11,8 @@ element-copy-out-cap c = search needs
 cap-requires : tie.Need-cap-requires
 cap-requires c κs = search needs
 
-caused-any-requires : tie.Need-caused-any-requires
-caused-any-requires c κs = search needs
-
-retract-struck-requires : tie.Need-retract-struck-requires
-retract-struck-requires c κs = search needs
+visit-seed-requires : tie.Need-visit-seed-requires
+visit-seed-requires c κs = search needs
 
 clear-rule-requires : tie.Need-clear-rule-requires
 clear-rule-requires c κs = search needs
@@ -30,7 +27,12 @@ same-length-3 : tie.Need-same-length-3
 same-length-3 c = search needs
 
 returns : tie.Need-returns
-returns c = inr (c .before .before .before .before .before .before .retract-struck .ensures)
+returns c = inl (quiet (c .before .before .before .before .before .before .before .before .before .before .before .before .before .before .before .cap .ensures) (c .before .before .before .before .before .before .before .before .before .before .before .visit-seed .ensures) (c .before .before .before .before .before .before .before .before .before .before .if1 .taken) (c .before .before .before .before .clear-rule .ensures))
+
+retract-struck-requires : tie.Need-retract-struck-requires
+retract-struck-requires c κs =
+    let s = c .before .before .before .before .before .before .before .before .before .before .before .before .before .before .before .before .before .pre in
+    (s .0, (s .1, seeding (c .before .before .before .before .before .before .before .before .before .before .before .before .cap .ensures) (c .before .before .before .before .before .before .before .before .visit-seed .ensures)))
 
 same-length-4 : tie.Need-same-length-4
 same-length-4 c = search needs
@@ -42,10 +44,7 @@ same-length-6 : tie.Need-same-length-6
 same-length-6 c = search needs
 
 returns-2 : tie.Need-returns-2
-returns-2 c =
-    let w = c .before .before .before .before in
-    let e = w .before .before .before .before .before .before in
-    inl (quiet (e .before .before .before .before .cap .ensures) (e .before .caused-any .ensures) (e .if1 .left) (w .clear-rule .ensures))
+returns-2 c = inr (c .before .before .before .before .before .before .retract-struck .ensures)
 
 pub retract-spec : {M : Type 1} → statement M
 retract-spec =
@@ -53,13 +52,13 @@ retract-spec =
     (tie.spec
     element-copy-out-cap
     cap-requires
-    caused-any-requires
-    retract-struck-requires
+    visit-seed-requires
     clear-rule-requires
     same-length
     same-length-2
     same-length-3
     returns
+    retract-struck-requires
     same-length-4
     same-length-5
     same-length-6

@@ -1,24 +1,21 @@
--- What the rule touched reopens, the rule is cleared, and propagation follows: `reworked` joins the three.
+-- What the rule touched reopens, the rule is cleared, and propagation follows: `reworked` joins them.
+use Rattle.filter_retract.specs.Laws.Done.{relaxed-sizes, reworked}
 use borrow.Author.Needs.{needs}
 use Rattle.filter_retract.proofs.retract_struck.Statement.{statement}
 use Rattle.filter_retract.proofs.retract_struck.Tie as tie
-use Rattle.filter_retract.specs.Laws.Done.{reopened-sizes, reworked}
 
-reopen-requires : tie.Need-reopen-requires
-reopen-requires c κs = search needs
+rules-on-calls-requires : tie.Need-rules-on-calls-requires
+rules-on-calls-requires c κs = search needs
 
-clear-rule-requires : tie.Need-clear-rule-requires
-clear-rule-requires c κs = search needs
+relax-requires : tie.Need-relax-requires
+relax-requires c κs =
+    let s = c .before .before .before .before .before .before .before .before .before .before .before .before .before .before .pre in
+    (s .0, (s .1 .1 .size, (c .before .before .before .before .before .before .before .before .rules-on-calls .ensures, s .1 .1 .calls-visited)))
 
-array-write-pending : tie.Need-array-write-pending
-array-write-pending c = search needs
-
-propagate-requires : tie.Need-propagate-requires
-propagate-requires c κs =
-    let w = c .before .before .before .before .before .before .before .before .before .before .before in
-    let o = w .before .before .before .before .before .before .before .before .before .before in
-    let s = o .before .before .before .before .before .before .before .before .before .before .before in
-    (reopened-sizes (s .pre .0) (o .reopen .ensures) (w .clear-rule .ensures), search needs)
+strike-again-requires : tie.Need-strike-again-requires
+strike-again-requires c κs =
+    let s = c .before .before .before .before .before .before .before .before .before .before .before .before .before .before .before .before .before .before .before .before .before .before .before .before .before .before .pre in
+    (relaxed-sizes (c .before .before .before .before .before .before .before .before .before .before .before .relax .ensures) (s .0), (s .1 .0, c .before .before .before .before .before .before .before .before .before .before .before .before .before .before .before .before .before .before .before .before .rules-on-calls .ensures))
 
 difference-requires : tie.Need-difference-requires
 difference-requires c κs = search needs
@@ -33,20 +30,15 @@ same-length-3 : tie.Need-same-length-3
 same-length-3 c = search needs
 
 returns : tie.Need-returns
-returns c =
-    let v = c .before .before .before .before .before in
-    let w = v .before .before .before .before .before .before .before .before .before .before .before .before in
-    let o = w .before .before .before .before .before .before .before .before .before .before in
-    reworked (o .reopen .ensures) (w .clear-rule .ensures) (v .propagate .ensures) (c .difference .ensures)
+returns c = reworked (c .before .before .before .before .before .before .before .before .before .before .before .before .before .before .before .before .before .before .before .before .before .before .before .before .before .before .before .before .before .before .before .before .before .before .pre .1 .1) (c .before .before .before .before .before .before .before .before .before .before .before .before .before .before .before .before .before .before .before .relax .ensures) (c .before .before .before .before .before .before .before .strike-again .ensures) (c .difference .ensures)
 
 pub retract-struck-spec : {M : Type 1} → statement M
 retract-struck-spec =
     tie.close
     (tie.spec
-    reopen-requires
-    clear-rule-requires
-    array-write-pending
-    propagate-requires
+    rules-on-calls-requires
+    relax-requires
+    strike-again-requires
     difference-requires
     same-length
     same-length-2

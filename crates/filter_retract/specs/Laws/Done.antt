@@ -1,61 +1,81 @@
 -- From what the parts of a retraction ensure to what it does to the bytes. Assumes nothing.
 use mathlib.Core.Path.{_≡_, refl, _∙_}
 use mathlib.Core.List.{List}
-use mathlib.Core.Bool.{Bool, false}
-use Prim.Native.Nat.{ℕ, _-_}
-use lib.ListN.{set, replicate}
+use Prim.Native.Nat.{ℕ, _-_, _<_}
+use mathlib.Core.Bool.{Bool}
+use lib.ListN.{length, replicate, length-replicate}
+use Rattle.tables.specs.Masks.{flagsOf, allFlags}
+use Rattle.masks.specs.Rules.{RulesOn, RuleDropped, Without}
 use Rattle.filter_propagate.specs.Rules.{RuleBytes, reached}
 use Rattle.filter_propagate.specs.Queue.{IsFlagged}
 use Rattle.filter_propagate.specs.Steps.{Propagated}
 use Rattle.filter_relax.specs.Touched.{Seeded}
 use Rattle.filter_relax.specs.Spread.{Adds}
-use Rattle.filter_relax.specs.Seed.{Finds}
 use Rattle.filter_relax.specs.Relaxed.{Relaxed}
-use Rattle.filter_retract.specs.Done.{RuleCleared, Reopening, Quiet, Reworked}
-use Rattle.layout.specs.Places.{columnsOf}
 use Rattle.layout.specs.Bounds.{Sizes}
-use Rattle.filter_relax.specs.Laws.Spread.{blank-replicate}
-use Rattle.filter_relax.specs.Laws.Relaxed.{relaxed-seed}
-use Rattle.layout.specs.Sizes.{slotsLength}
+use Rattle.layout.specs.Places.{columnsOf}
+use Rattle.masks.specs.Laws.Rules.{flags-without, dropped-rules}
+use Rattle.filter_relax.specs.Laws.Spread.{blank-replicate, adds-size}
+use Rattle.filter_relax.specs.Laws.Seed.{seed-visited, seed-only, seed-calls}
+use Rattle.filter_relax.specs.Laws.Relaxed.{relaxed-same, seed-empty}
+use Rattle.filter_retract.specs.Done.{RuleCleared, Seeding, StruckAgain, Quiet, Reworked}
 
-module _ {p : ℕ} {R : RuleBytes} {killers slots : List ℕ} where
-  -- the visited of the seed are the slots whose cause is p
-  pub reopening : {n r t : ℕ} {revived opened : List ℕ} {seeded flags after visited pending : List Bool} → n ≡ columnsOf (R .arity) p
-      → Adds (Seeded slots (R .scope) p n) r (replicate slotsLength false) seeded flags after
-      → Relaxed R (IsFlagged seeded) 255 t killers revived slots opened visited pending → Reopening p R t killers revived slots opened pending
-  reopening {visited = visited} e a x = record { visited = visited; relaxed = relaxed-seed (blank-replicate slotsLength) (rw e at a) x }
+-- visited among none, the slots whose cause is p are the seed of its retraction
+module _ {p n calls : ℕ} {R : RuleBytes} {slots visited : List ℕ} (e : n ≡ columnsOf (R .arity) p) (adds : Adds (Seeded slots (R .scope) p n) (replicate 32 0) visited 0 calls) where
+  pub seeding : Seeding p R slots visited calls
+  seeding =
+      let a = rw e at adds in
+      let l : length visited ≡ 32 = adds-size a ∙ length-replicate {A = ℕ} 32 0 in
+      record { size = l; has = seed-visited l blank-replicate a; only = seed-only l blank-replicate a; calls-visited = seed-calls l blank-replicate a }
 
-  -- where no slot is found with the cause p there is none
-  pub quiet : {n : ℕ} {R′ : RuleBytes} {killers′ : List ℕ} {found : Bool} → n ≡ columnsOf (R .arity) p → Finds (Seeded slots (R .scope) p n) found
-      → found ≡ false → RuleCleared p R R′ killers killers′ → Quiet p R R′ killers killers′ slots slots 0 0
-  quiet e f left c = record { none = λ j s. f .absent left j (rw e s); cleared = c; slots-same = refl; none-reopened = refl; none-touched = refl }
-
-  -- the reopening and the clearing leave the buffers' lengths as they were
-  pub reopened-sizes : {t : ℕ} {R′ : RuleBytes} {revived emptied opened : List ℕ} {pending : List Bool} → Sizes (R .rows) killers slots
-      → Reopening p R t killers revived slots opened pending → RuleCleared p R R′ revived emptied → Sizes (R′ .rows) emptied opened
-  reopened-sizes s o c =
+  -- where no call has one there is none
+  pub quiet : {R′ : RuleBytes} {killers killers′ : List ℕ} → calls ≡ 0 → RuleCleared p R R′ killers killers′ → Quiet p R R′ killers killers′ slots slots 0 0
+  quiet z c =
       record {
-        rows-size = c .written .rows-size ∙ s .rows-size;
-        killers-size = c .killers-empty .len ∙ (o .relaxed .killers-size ∙ s .killers-size);
-        slots-size = o .relaxed .slots-size ∙ s .slots-size;
-      }
-
-  -- the reopening, the clearing and propagation
-  pub reworked : {reopened touched again : ℕ} {R′ : RuleBytes} {revived emptied opened killers′ slots′ : List ℕ} {pending flags : List Bool}
-      → Reopening p R touched killers revived slots opened pending → RuleCleared p R R′ revived emptied
-      → Propagated R′ again (reached emptied opened (set pending p false)) (reached killers′ slots′ flags)
-      → reopened ≡ touched - again → Reworked p R R′ killers killers′ slots slots′ reopened touched
-  reworked {again = again} {revived = revived} {emptied} {opened} {pending = pending} {flags} o c d e =
-      record {
-        revived = revived;
-        opened = opened;
-        visited = o .visited;
-        pending = pending;
-        relaxed = o .relaxed;
-        emptied = emptied;
+        none = seed-empty (length-replicate {A = ℕ} 32 0) blank-replicate (rw e at adds) z;
         cleared = c;
-        again = again;
-        flags = flags;
-        propagated = d;
-        difference = e;
+        slots-same = refl;
+        none-reopened = refl;
+        none-touched = refl;
       }
+
+-- where the rule is cleared the lengths stay, and the table of the rules on each call without it is that of the rules
+module _ {p : ℕ} {R R′ : RuleBytes} {killers emptied : List ℕ} (c : RuleCleared p R R′ killers emptied) where
+  pub cleared-sizes : {slots : List ℕ} → Sizes (R .rows) killers slots → Sizes (R′ .rows) emptied slots
+  cleared-sizes s =
+      record { rows-size = c .written .rows-size ∙ s .rows-size; killers-size = c .killers-empty .len ∙ s .killers-size; slots-size = s .slots-size }
+
+  pub cleared-rules : {on on′ : List ℕ} → p < 64 → RulesOn (R .arity) (R .scope) on → RuleDropped p on on′ → RulesOn (R′ .arity) (R′ .scope) on′
+  cleared-rules {on = on} {on′ = on′} lp known d =
+      dropped-rules (R .arity) (R .scope) (R′ .arity) (R′ .scope) on on′ p lp known d (c .written .arity)
+      (λ q ne lq. let same = c .written .other q ne in (same .arity, same .scope))
+
+  -- and propagation follows, from the pending rules but p
+  pub struck-again : {again pending left : ℕ} {killers′ slots slots′ : List ℕ} → p < 64 → Without p pending left
+      → Propagated R′ again (reached emptied slots (flagsOf 64 left)) (reached killers′ slots′ (flagsOf 64 0))
+      → StruckAgain p again (flagsOf 64 pending) R R′ killers killers′ slots slots′
+  struck-again lp w d = record { emptied = emptied; cleared = c; flags = flagsOf 64 0; propagated = rw (flags-without lp w) at d }
+
+-- the reopening, the clearing and propagation
+pub reworked : {p reopened touched again calls : ℕ} {R R′ : RuleBytes} {killers killers′ slots slots′ seeded revived opened : List ℕ} {visited pending : List Bool}
+    → Seeding p R slots seeded calls → Relaxed R (IsFlagged (allFlags 32 seeded)) 255 touched killers revived slots opened visited pending
+    → StruckAgain p again pending R R′ revived killers′ opened slots′ → reopened ≡ touched - again → Reworked p R R′ killers killers′ slots slots′ reopened touched
+reworked {again = again} {revived = revived} {opened} {visited} {pending} s x a e =
+    record {
+      revived = revived;
+      opened = opened;
+      visited = visited;
+      pending = pending;
+      relaxed = relaxed-same (s .only) (s .has) x;
+      emptied = a .emptied;
+      cleared = a .cleared;
+      again = again;
+      flags = a .flags;
+      propagated = a .propagated;
+      difference = e;
+    }
+
+-- a relaxation leaves the buffers' lengths as they were
+pub relaxed-sizes : {b t : ℕ} {R : RuleBytes} {Seed : ℕ → Type 0} {killers revived slots opened : List ℕ} {visited pending : List Bool}
+    → Relaxed R Seed b t killers revived slots opened visited pending → Sizes (R .rows) killers slots → Sizes (R .rows) revived opened
+relaxed-sizes x s = record { rows-size = s .rows-size; killers-size = x .killers-size ∙ s .killers-size; slots-size = x .slots-size ∙ s .slots-size }

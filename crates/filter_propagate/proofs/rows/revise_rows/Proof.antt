@@ -1,20 +1,20 @@
--- One row more is treated in each round.
+-- One row more is treated in each turn.
 use Prim.Native.Nat.{_≤_, _-_}
 use native.Mathlib.Omega.{arith}
-use Rattle.filter_propagate.specs.Rows.{RowsRevised}
+use Rattle.filter_propagate.specs.Walk.{Walked}
+use Rattle.filter_propagate.specs.Laws.Walk.{walked-none, walked-more, walked-at}
 use borrow.Author.Needs.{needs}
 use Rattle.filter_propagate.proofs.rows.revise_rows.Statement.{statement}
 use Rattle.filter_propagate.proofs.rows.revise_rows.Tie as tie
-use Rattle.filter_propagate.specs.Laws.Rows.{rows-none, rows-more, rows-at}
 
 abbrev Inv-loop : tie.InvT-loop
-Inv-loop rows slots killers₀ scope supported₀ p n m w₀ killers supported w = (w ≤ m) × RowsRevised rows slots scope p n w killers₀ killers supported₀ supported
+Inv-loop rows killers₀ struck p m found₀ w₀ killers found w = (w ≤ m) × Walked rows struck p w killers₀ killers found
 
 abbrev μ-loop : tie.MeasureT-loop
-μ-loop rows slots killers₀ scope supported₀ p n m w₀ killers supported w = m - w
+μ-loop rows killers₀ struck p m found₀ w₀ killers found w = m - w
 
 loop-holds : tie.Need-loop-holds Inv-loop μ-loop
-loop-holds c = (omega arith, rows-none _ _ _ _ _ _ _)
+loop-holds c = (omega arith, walked-none _ _ _ _)
 
 revise-row-requires : tie.Need-revise-row-requires Inv-loop μ-loop
 revise-row-requires c κs = search needs
@@ -26,13 +26,13 @@ loop-less : tie.Need-loop-less Inv-loop μ-loop
 loop-less c = search needs
 
 loop-again : tie.Need-loop-again Inv-loop μ-loop
-loop-again c = (omega arith, rows-more _ _ _ _ _ (c .before .before .before .before .before .before .loop .inv .1) (c .before .before .revise-row .ensures))
+loop-again c = (omega arith, walked-more _ _ _ (c .before .before .before .before .before .loop .inv .1) (c .before .before .revise-row .ensures))
 
 same-length : tie.Need-same-length Inv-loop μ-loop
 same-length c = search needs
 
 returns : tie.Need-returns Inv-loop μ-loop
-returns c = rows-at _ _ _ _ _ (c .before .loop .inv .1) (omega arith) (omega arith)
+returns c = walked-at _ _ _ (c .before .loop .inv .1) (omega arith) (omega arith)
 
 pub revise-rows-spec : {M : Type 1} → statement M
 revise-rows-spec =

@@ -1,21 +1,23 @@
--- One column more is treated in each round, and its call is flagged exactly where a slot of it was struck.
-use mathlib.Core.Logic.{⊎-elim}
+-- One column more is treated in each turn, and its call joins the mask exactly where a slot of it was struck. Each turn keeps what is known.
 use Prim.Native.Nat.{_≤_, _-_}
 use native.Mathlib.Omega.{arith}
-use Rattle.filter_propagate.specs.Strikes.{ColumnsStruck}
+use Rattle.filter_propagate.specs.Strikes.{NotIn, ColumnsStruck}
+use Rattle.filter_propagate.specs.Known.{StillKnown}
+use Rattle.filter_propagate.specs.Laws.Strikes.{strikes-fit, columns-none, columns-more, columns-at}
+use Rattle.filter_propagate.specs.Laws.Known.{known-some, known-still, still-none, still-more}
 use borrow.Author.Needs.{needs}
 use Rattle.filter_propagate.proofs.strikes.strike_columns.Statement.{statement}
 use Rattle.filter_propagate.proofs.strikes.strike_columns.Tie as tie
-use Rattle.filter_propagate.specs.Laws.Strikes.{strikes-fit, columns-none, columns-set, columns-keep, columns-at}
 
 abbrev Inv-loop : tie.InvT-loop
-Inv-loop slots₀ supported scope changed₀ p n total₀ k₀ slots changed total k = (k ≤ n) × ColumnsStruck supported scope p k total slots₀ slots changed₀ changed
+Inv-loop slots₀ opened₀ struck₀ found scope p n number₀ calls₀ k₀ slots opened struck number calls k =
+    (k ≤ n) × ColumnsStruck (NotIn found) scope p k number calls slots₀ slots × StillKnown slots₀ opened₀ struck₀ slots opened struck
 
 abbrev μ-loop : tie.MeasureT-loop
-μ-loop slots₀ supported scope changed₀ p n total₀ k₀ slots changed total k = n - k
+μ-loop slots₀ opened₀ struck₀ found scope p n number₀ calls₀ k₀ slots opened struck number calls k = n - k
 
 loop-holds : tie.Need-loop-holds Inv-loop μ-loop
-loop-holds c = (omega arith, columns-none _ _ _ _ _)
+loop-holds c = (omega arith, columns-none _ _ _ _, still-none _ _ _)
 
 mul-c : tie.Need-mul-c Inv-loop μ-loop
 mul-c c = search needs
@@ -29,14 +31,19 @@ element-copy-out-c c = search needs
 cast-c : tie.Need-cast-c Inv-loop μ-loop
 cast-c c = search needs
 
-strike-column-requires : tie.Need-strike-column-requires Inv-loop μ-loop
-strike-column-requires c κs = search needs
+column-requires : tie.Need-column-requires Inv-loop μ-loop
+column-requires c κs = search needs
 
-element-write-changed : tie.Need-element-write-changed Inv-loop μ-loop
-element-write-changed c = search needs
+strike-call-requires : tie.Need-strike-call-requires Inv-loop μ-loop
+strike-call-requires c κs =
+    let at = c .before .before .before .before .before .before in
+    (search needs, known-some (λ d e. record { column = at .loop .k; inside = c .before .before .before .before .before .loop-test .taken; is = e }) (known-still (at .before .before .pre .1) (at .loop .inv .2)))
 
-add-total : tie.Need-add-total Inv-loop μ-loop
-add-total c = omega (arith, strikes-fit _ _ _ (c .before .before .before .before .before .before .before .loop .inv .1 .strikes) (c .before .before .before .strike-column .ensures))
+with-call-requires : tie.Need-with-call-requires Inv-loop μ-loop
+with-call-requires c κs = search needs
+
+add-number : tie.Need-add-number Inv-loop μ-loop
+add-number c = omega (arith, strikes-fit _ _ _ (c .before .before .before .before .before .before .before .before .before .before .loop .inv .1 .strikes) (c .before .before .before .strike-call .ensures .0))
 
 add-k : tie.Need-add-k Inv-loop μ-loop
 add-k c = search needs
@@ -46,20 +53,16 @@ loop-less c = search needs
 
 loop-again : tie.Need-loop-again Inv-loop μ-loop
 loop-again c =
-    let l = c .before .before .before .before .before .before .before .loop .inv .1 in
-    let r = c .before .before .before .strike-column .ensures in (
-      omega arith,
-      ⊎-elim
-          (λ w. let z = w .0 .taken in rw (w .1) (columns-set _ _ _ _ (omega arith) l r (omega arith) (omega arith)))
-          (λ w. let z = w .0 .left in rw (w .1) (columns-keep _ _ _ _ (omega arith) l r (omega arith)))
-          (c .if1 .came),
-    )
+    let i = c .before .before .before .before .before .before .before .before .before .before .loop .inv in
+    let call = c .before .before .before .strike-call .ensures in
+    let struck = rw (c .before .before .before .before .before .before .before .column .ensures) at (call .0) in
+    (omega arith, columns-more _ _ _ (omega arith) (i .1) struck (c .with-call .ensures), still-more (i .2) (call .1))
 
 same-length : tie.Need-same-length Inv-loop μ-loop
 same-length c = search needs
 
 returns : tie.Need-returns Inv-loop μ-loop
-returns c = columns-at _ _ _ (c .before .loop .inv .1) (omega arith) (omega arith)
+returns c = (columns-at _ _ _ (c .before .loop .inv .1) (omega arith) (omega arith), c .before .loop .inv .2)
 
 pub strike-columns-spec : {M : Type 1} → statement M
 strike-columns-spec =
@@ -72,9 +75,10 @@ strike-columns-spec =
     add-c
     element-copy-out-c
     cast-c
-    strike-column-requires
-    element-write-changed
-    add-total
+    column-requires
+    strike-call-requires
+    with-call-requires
+    add-number
     add-k
     loop-less
     loop-again

@@ -1,12 +1,9 @@
--- With a new visited slot the rules on changed calls are enqueued and these calls flagged; without one nothing else changes.
-use native.Mathlib.Omega.{arith}
+-- The scan says which calls have a new slot, and so which rules become pending.
+use Rattle.filter_propagate.specs.Rules.{rulesIn}
+use Rattle.filter_relax.specs.Laws.Closure.{expanded}
 use borrow.Author.Needs.{needs}
 use Rattle.filter_relax.proofs.closure.expand.Statement.{statement}
 use Rattle.filter_relax.proofs.closure.expand.Tie as tie
-use Rattle.filter_relax.specs.Laws.Closure.{expanded-more, expanded-quiet}
-
-element-write-pending : tie.Need-element-write-pending
-element-write-pending c = search needs
 
 scan-rule-requires : tie.Need-scan-rule-requires
 scan-rule-requires c κs = search needs
@@ -14,28 +11,12 @@ scan-rule-requires c κs = search needs
 enqueue-requires : tie.Need-enqueue-requires
 enqueue-requires c κs = search needs
 
-merge-requires : tie.Need-merge-requires
-merge-requires c κs = search needs
-
 returns : tie.Need-returns
 returns c =
-    let a = c .before .before .before .before .before .before .before .before .before .before .before .before .before .pre .1 in
-    let z = c .before .before .before .before .before .before .if1 .taken in
-    expanded-more _ _ _ _ _ (a .1) (a .0) (c .before .before .before .before .before .before .before .scan-rule .ensures) (omega arith) (c .before .before .before .enqueue .ensures) (c .merge .ensures)
-
-returns-2 : tie.Need-returns-2
-returns-2 c =
-    let a = c .before .before .before .before .before .before .before .pre .1 in
-    let z = c .if1 .left in
-    expanded-quiet _ _ _ _ _ (a .1) (a .0) (c .before .scan-rule .ensures) (omega arith)
+    let start = c .before .before .before .before .before .before .before in
+    let pre = start .pre .1 in
+    let a = start .args in
+    expanded (rulesIn (a .rows) (a .arity) (a .scope) (a .lengths)) _ _ _ _ _ _ (pre .1 .0) (pre .1 .1 .0) (pre .1 .1 .1) (pre .0) (c .before .before .scan-rule .ensures) (c .enqueue .ensures)
 
 pub expand-spec : {M : Type 1} → statement M
-expand-spec =
-    tie.close
-    (tie.spec
-    element-write-pending
-    scan-rule-requires
-    enqueue-requires
-    merge-requires
-    returns
-    returns-2)
+expand-spec = tie.close (tie.spec scan-rule-requires enqueue-requires returns)

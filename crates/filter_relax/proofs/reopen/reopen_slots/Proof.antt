@@ -1,48 +1,52 @@
--- One slot more is treated in each round, and no more are counted than are passed.
-use mathlib.Core.Path.{refl}
-use Prim.Native.Nat.{_≤_, _*_, _-_}
+-- The slots that are not left hold the byte; the lowest of those left is next.
+use Prim.Native.Nat.{_-_, _<_}
 use native.Mathlib.Omega.{arith}
-use Rattle.filter_relax.specs.Reopen.{RangeReopened}
+use lib.Bits.{and-le-r}
+use lib.Count.{trailingZeros}
+use Rattle.tables.specs.Laws.Left.{left-lowest}
+use Rattle.filter_relax.specs.Laws.Reopen.{SlotsReopened, slots-none, slots-more, slots-done}
 use borrow.Author.Needs.{needs}
 use Rattle.filter_relax.proofs.reopen.reopen_slots.Statement.{statement}
 use Rattle.filter_relax.proofs.reopen.reopen_slots.Tie as tie
-use Rattle.filter_relax.specs.Laws.Reopen.{reopens-none, reopens-more, reopens-le, reopens-at}
 
 abbrev Inv-loop : tie.InvT-loop
-Inv-loop slots₀ visited b c total₀ s₀ slots total s = (s ≤ 32) × RangeReopened b total visited (32 * c) s slots₀ slots
+Inv-loop slots₀ b c mask left₀ slots left = SlotsReopened b c mask left slots₀ slots
 
 abbrev μ-loop : tie.MeasureT-loop
-μ-loop slots₀ visited b c total₀ s₀ slots total s = 32 - s
+μ-loop slots₀ b c mask left₀ slots left = left
+
+below : (c : tie.In-loop Inv-loop μ-loop) → trailingZeros 32 (c .before .loop .left) < 32
+below c = left-lowest (c .loop-test .taken) (c .before .loop .inv .lowest) .place
 
 loop-holds : tie.Need-loop-holds Inv-loop μ-loop
-loop-holds c = (omega arith, reopens-none _)
+loop-holds c = slots-none _ _ _ _ (omega arith)
 
-mul-reopen-slot : tie.Need-mul-reopen-slot Inv-loop μ-loop
-mul-reopen-slot c = search needs
+cast-s : tie.Need-cast-s Inv-loop μ-loop
+cast-s c = omega (arith, below c)
 
-add-reopen-slot : tie.Need-add-reopen-slot Inv-loop μ-loop
-add-reopen-slot c = search needs
+mul-slots : tie.Need-mul-slots Inv-loop μ-loop
+mul-slots c = search needs
 
-reopen-slot-requires : tie.Need-reopen-slot-requires Inv-loop μ-loop
-reopen-slot-requires c κs = search needs
+add-slots : tie.Need-add-slots Inv-loop μ-loop
+add-slots c = omega (arith, below c)
 
-add-total : tie.Need-add-total Inv-loop μ-loop
-add-total c = let t = reopens-le (c .before .before .before .before .before .loop .inv .1) in let d = reopens-le (c .before .before .reopen-slot .ensures) in omega arith
+slice-write-slots : tie.Need-slice-write-slots Inv-loop μ-loop
+slice-write-slots c = omega (arith, below c, c .before .loop .inv .slots .len)
 
-add-s : tie.Need-add-s Inv-loop μ-loop
-add-s c = search needs
+sub-left : tie.Need-sub-left Inv-loop μ-loop
+sub-left c = search needs
 
 loop-less : tie.Need-loop-less Inv-loop μ-loop
-loop-less c = search needs
+loop-less c = omega (arith, and-le-r (c .before .loop .left) (c .before .loop .left - 1))
 
 loop-again : tie.Need-loop-again Inv-loop μ-loop
-loop-again c = (omega arith, reopens-more _ _ _ refl (c .before .before .before .before .before .loop .inv .1) (c .before .before .reopen-slot .ensures))
+loop-again c = slots-more (c .loop-test .taken) (omega (arith, below c, c .before .loop .inv .slots .len)) (c .before .loop .inv)
 
 same-length : tie.Need-same-length Inv-loop μ-loop
-same-length c = search needs
+same-length c = c .before .loop .inv .slots .len
 
 returns : tie.Need-returns Inv-loop μ-loop
-returns c = reopens-at (c .before .loop .inv .1) (omega arith) (omega arith)
+returns c = slots-done (omega arith) (c .loop-test .left) (c .before .loop .inv)
 
 pub reopen-slots-spec : {M : Type 1} → statement M
 reopen-slots-spec =
@@ -51,11 +55,11 @@ reopen-slots-spec =
     Inv-loop
     μ-loop
     loop-holds
-    mul-reopen-slot
-    add-reopen-slot
-    reopen-slot-requires
-    add-total
-    add-s
+    cast-s
+    mul-slots
+    add-slots
+    slice-write-slots
+    sub-left
     loop-less
     loop-again
     same-length

@@ -1,13 +1,28 @@
--- The killer's byte is written where its slot is visited, and kept where it is not.
-use mathlib.Core.Path.{refl}
+-- The killer's byte goes where the row's killer bit is not 0, which says that the killer's slot is in the sets.
 use native.Mathlib.Omega.{arith}
+use Rattle.tables.specs.Laws.Sweep.{one-set}
+use Rattle.filter_relax.specs.Laws.Revive.{row-revived}
 use borrow.Author.Needs.{needs}
 use Rattle.filter_relax.proofs.revive.revive_row.Statement.{statement}
 use Rattle.filter_relax.proofs.revive.revive_row.Tie as tie
-use Rattle.tables.specs.Laws.Sweep.{one-set, one-keep}
 
-killer-visited-requires : tie.Need-killer-visited-requires
-killer-visited-requires c κs = search needs
+row-slots-requires : tie.Need-row-slots-requires
+row-slots-requires c κs = search needs
+
+mul-old : tie.Need-mul-old
+mul-old c = search needs
+
+add-old : tie.Need-add-old
+add-old c = search needs
+
+slice-read-old : tie.Need-slice-read-old
+slice-read-old c = search needs
+
+killer-bit-requires : tie.Need-killer-bit-requires
+killer-bit-requires c κs = search needs
+
+killer-left-requires : tie.Need-killer-left-requires
+killer-left-requires c κs = search needs
 
 mul-killers : tie.Need-mul-killers
 mul-killers c = search needs
@@ -22,23 +37,22 @@ same-length : tie.Need-same-length
 same-length c = search needs
 
 returns : tie.Need-returns
-returns c = let d = c .before .killer-visited .ensures .found (c .if1 .taken) in one-set 0 _ _ _ _ _ (omega arith) (record { written = λ x. refl; kept = λ out. absurd (out d) })
-
-same-length-2 : tie.Need-same-length-2
-same-length-2 c = search needs
-
-returns-2 : tie.Need-returns-2
-returns-2 c = let d = c .before .killer-visited .ensures .absent (c .if1 .left) in one-keep 0 _ _ _ _ (record { written = λ x. absurd (d x); kept = λ out. refl })
+returns c =
+    let met = c .before in
+    rw (c .killer-left .ensures) (one-set 0 _ _ _ _ _ (omega arith) (row-revived (met .before .before .row-slots .ensures) (met .killer-bit .ensures)))
 
 pub revive-row-spec : {M : Type 1} → statement M
 revive-row-spec =
     tie.close
     (tie.spec
-    killer-visited-requires
+    row-slots-requires
+    mul-old
+    add-old
+    slice-read-old
+    killer-bit-requires
+    killer-left-requires
     mul-killers
     add-killers
     slice-write-killers
     same-length
-    returns
-    same-length-2
-    returns-2)
+    returns)

@@ -2,17 +2,17 @@
 use Prim.Native.Nat.{_≤_, _*_, _-_}
 use native.Mathlib.Omega.{arith}
 use Rattle.tables.specs.Sweep.{Swept}
-use Rattle.filter_relax.specs.Revive.{RowRevived}
+use Rattle.tables.specs.Laws.Sweep.{swept-none, swept-more, swept-at}
+use Rattle.filter_relax.specs.Revive.{MaskRevived}
 use borrow.Author.Needs.{needs}
 use Rattle.filter_relax.proofs.revive.revive_rows.Statement.{statement}
 use Rattle.filter_relax.proofs.revive.revive_rows.Tie as tie
-use Rattle.tables.specs.Laws.Sweep.{swept-none, swept-more, swept-at}
 
 abbrev Inv-loop : tie.InvT-loop
-Inv-loop rows killers₀ scope visited q n m w₀ killers w = (w ≤ m) × Swept 0 (RowRevived rows scope visited q n) (64 * q) w killers₀ killers
+Inv-loop rows killers₀ sets q m w₀ killers w = (w ≤ m) × Swept 0 (MaskRevived rows sets q) (64 * q) w killers₀ killers
 
 abbrev μ-loop : tie.MeasureT-loop
-μ-loop rows killers₀ scope visited q n m w₀ killers w = m - w
+μ-loop rows killers₀ sets q m w₀ killers w = m - w
 
 loop-holds : tie.Need-loop-holds Inv-loop μ-loop
 loop-holds c = (omega arith, swept-none 0 _ _ _)

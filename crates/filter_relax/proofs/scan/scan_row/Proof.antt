@@ -1,20 +1,38 @@
--- The row is visited where its killer's slot is, and passed over where it is not.
+-- The killer's bit says whether the row's slots join.
+use Rattle.filter_relax.specs.Laws.Scan.{row-scanned}
 use borrow.Author.Needs.{needs}
 use Rattle.filter_relax.proofs.scan.scan_row.Statement.{statement}
 use Rattle.filter_relax.proofs.scan.scan_row.Tie as tie
-use Rattle.filter_relax.specs.Laws.Scan.{scans-row, scans-skip}
 
-killer-visited-requires : tie.Need-killer-visited-requires
-killer-visited-requires c κs = search needs
+row-slots-requires : tie.Need-row-slots-requires
+row-slots-requires c κs = search needs
 
-visit-row-requires : tie.Need-visit-row-requires
-visit-row-requires c κs = search needs
+mul-killer-bit : tie.Need-mul-killer-bit
+mul-killer-bit c = search needs
+
+add-killer-bit : tie.Need-add-killer-bit
+add-killer-bit c = search needs
+
+shared-slice-read-killer-bit : tie.Need-shared-slice-read-killer-bit
+shared-slice-read-killer-bit c = search needs
+
+killer-bit-requires : tie.Need-killer-bit-requires
+killer-bit-requires c κs = search needs
+
+with-hit-requires : tie.Need-with-hit-requires
+with-hit-requires c κs = search needs
 
 returns : tie.Need-returns
-returns c = scans-row _ _ _ _ _ _ _ (c .before .before .before .before .killer-visited .ensures .found (c .before .before .before .if1 .taken)) (c .visit-row .ensures)
-
-returns-2 : tie.Need-returns-2
-returns-2 c = scans-skip _ _ _ _ _ _ _ _ (c .before .killer-visited .ensures .absent (c .if1 .left))
+returns c = row-scanned _ (c .before .before .before .row-slots .ensures) (c .before .killer-bit .ensures) (c .with-hit .ensures)
 
 pub scan-row-spec : {M : Type 1} → statement M
-scan-row-spec = tie.close (tie.spec killer-visited-requires visit-row-requires returns returns-2)
+scan-row-spec =
+    tie.close
+    (tie.spec
+    row-slots-requires
+    mul-killer-bit
+    add-killer-bit
+    shared-slice-read-killer-bit
+    killer-bit-requires
+    with-hit-requires
+    returns)

@@ -1,23 +1,24 @@
--- One column more is treated in each round.
+-- The slots of one column's call more are visited in each round.
+use mathlib.Core.Path.{_≡_, _∙_}
 use Prim.Native.Nat.{_≤_, _-_}
 use native.Mathlib.Omega.{arith}
-use Rattle.tables.specs.Assign.{Below}
-use Rattle.filter_relax.specs.Touched.{CallCaused}
-use Rattle.filter_relax.specs.Spread.{Adds}
+use lib.ListN.{length}
 use borrow.Author.Needs.{needs}
+use Rattle.filter_relax.specs.Touched.{Seeded}
+use Rattle.filter_relax.specs.Spread.{Adds}
+use Rattle.filter_relax.specs.Laws.Spread.{adds-none, adds-more, adds-at, adds-size}
+use Rattle.filter_relax.specs.Laws.Seed.{adds-caused}
 use Rattle.filter_relax.proofs.seed.visit_seed.Statement.{statement}
 use Rattle.filter_relax.proofs.seed.visit_seed.Tie as tie
-use Rattle.layout.specs.Places.{callOf}
-use Rattle.filter_relax.specs.Laws.Spread.{adds-none, adds-more, adds-at, spread-fit}
 
 abbrev Inv-loop : tie.InvT-loop
-Inv-loop slots scope marks₀ flagged₀ p n total₀ k₀ visited flagged total k = (k ≤ n) × Adds (Below (λ i. CallCaused slots p (callOf scope p i)) k) total marks₀ visited flagged₀ flagged
+Inv-loop slots scope visited₀ p n calls₀ k₀ visited calls k = (k ≤ n) × (length visited ≡ 32) × Adds (Seeded slots scope p k) visited₀ visited 0 calls
 
 abbrev μ-loop : tie.MeasureT-loop
-μ-loop slots scope marks₀ flagged₀ p n total₀ k₀ visited flagged total k = n - k
+μ-loop slots scope visited₀ p n calls₀ k₀ visited calls k = n - k
 
 loop-holds : tie.Need-loop-holds Inv-loop μ-loop
-loop-holds c = (omega arith, adds-none _ _ _)
+loop-holds c = (omega arith, search needs, adds-none _ _ _)
 
 mul-c : tie.Need-mul-c Inv-loop μ-loop
 mul-c c = search needs
@@ -31,14 +32,14 @@ element-copy-out-c c = search needs
 cast-c : tie.Need-cast-c Inv-loop μ-loop
 cast-c c = search needs
 
-cast-visit-call : tie.Need-cast-visit-call Inv-loop μ-loop
-cast-visit-call c = search needs
+cast-slots-with : tie.Need-cast-slots-with Inv-loop μ-loop
+cast-slots-with c = search needs
+
+slots-with-requires : tie.Need-slots-with-requires Inv-loop μ-loop
+slots-with-requires c κs = search needs
 
 visit-call-requires : tie.Need-visit-call-requires Inv-loop μ-loop
 visit-call-requires c κs = search needs
-
-add-total : tie.Need-add-total Inv-loop μ-loop
-add-total c = omega (arith, spread-fit (c .before .before .before .before .before .loop .inv .1 .spread) (c .visit-call .ensures .spread))
 
 add-k : tie.Need-add-k Inv-loop μ-loop
 add-k c = search needs
@@ -47,10 +48,13 @@ loop-less : tie.Need-loop-less Inv-loop μ-loop
 loop-less c = search needs
 
 loop-again : tie.Need-loop-again Inv-loop μ-loop
-loop-again c = (omega arith, adds-more _ (c .before .before .before .before .before .loop .inv .1) (c .visit-call .ensures))
+loop-again c =
+    let inv = c .before .before .before .before .before .loop .inv in
+    let a = c .visit-call .ensures in
+    (omega arith, adds-size a ∙ inv .1, adds-more _ (inv .2) (adds-caused _ _ _ (c .before .before .slots-with .ensures) a))
 
 returns : tie.Need-returns Inv-loop μ-loop
-returns c = adds-at _ (c .before .loop .inv .1) (omega arith) (omega arith)
+returns c = adds-at _ (c .before .loop .inv .2) (omega arith) (omega arith)
 
 pub visit-seed-spec : {M : Type 1} → statement M
 visit-seed-spec =
@@ -63,9 +67,9 @@ visit-seed-spec =
     add-c
     element-copy-out-c
     cast-c
-    cast-visit-call
+    cast-slots-with
+    slots-with-requires
     visit-call-requires
-    add-total
     add-k
     loop-less
     loop-again
