@@ -2,11 +2,11 @@
  * The berth board, for a host in C (C99 and later) or C++. Link libberth.a.
  *
  * A board has 1 to 32 calls, each with 1 to 32 slots, and up to 64 rules. Everything is numbered from 0 and is one unsigned byte. The library keeps nothing:
- * the host holds a value and three buffers, hands them to every function, and keeps what comes back. struct berth_board below holds all of it.
+ * the host holds a value and three buffers and lends them to every function. Commands write all four in place. struct berth_board below holds all of it.
  *
  * Each function is proved to return, and to stay inside what it is lent, whatever the value, the buffers and the command's bytes hold. What the host has to see
- * to: the library is the header's (berth_header_fits), a pointer is not null and reaches as far as its length says, and the buffers of one call do not
- * overlap each other.
+ * to: the library is the header's (berth_header_fits), a pointer is not null and reaches as far as its length says, and what is lent to one call, the value among
+ * it, does not overlap.
  *
  * A board takes 22,183 bytes, 679 of them the value's, and the library takes nothing from a heap. It has no variables, so boards have nothing to do with each
  * other: threads may work on different boards at once. A board is one thread's at a time, except that several may ask it questions while none sends a command.
@@ -48,13 +48,13 @@ extern "C" {
 #define BERTH_FILE 32768
 
 /*
- * The stack that a call needs, with the copies of the value that its caller makes. It is measured and not proved: on x86-64, over every function and the
- * commands of a full board, hosts/stack.c found 9,064 bytes where its caller was compiled without optimisation, and 8,584 with it.
+ * The stack that a call needs, with the copies of the value that the questions are handed. It is measured and not proved: on x86-64, over every function and the
+ * commands of a full board, hosts/stack.c found 7,080 bytes where it was compiled with -O2, 7,208 without optimisation, and 8,056, the most, with -O3.
  */
 #define BERTH_STACK 12288
 
 /* The version that this header is of. It rises with any change of a struct, of a function or of what one means. */
-#define BERTH_VERSION 2
+#define BERTH_VERSION 3
 
 /* The version of the library, and the bytes of its value. They are plain numbers, so that they can be asked whatever else differs. */
 uint32_t berth_version(void);
@@ -159,7 +159,8 @@ static inline int berth_header_fits(void) {
 struct berth_value berth_fresh(void);
 
 /*
- * A command. The reply's value is to be kept for the next one. Where it is refused the buffers stay as they were, and the value is the one handed in.
+ * A command. The value and the buffers are written in place; where it is refused, all of them stay as they were. The value must not overlap the command's bytes
+ * or a buffer.
  * Checked, by kind: 1, 3, 4, then
  *   board 5; head 6, 7, 8, 9, 10, 11; row 6, 12, 13, 14, 11, 15; put 6, 12, 16; lift 6, 7, 17.
  */
@@ -168,34 +169,36 @@ struct berth_command_reply {
     size_t reopened; /* R: slots struck before and open after */
     size_t touched;  /* T: of a put S; of a lift at least R, and at most the slots struck before */
     uint8_t number;  /* 0, or the refusal; S, R and T are 0 then, and for kinds 1 to 3 */
-    struct berth_value value;
 };
 
-struct berth_command_reply berth_command(struct berth_value value, const uint8_t *bytes, size_t bytes_length, uint8_t *rows, size_t rows_length,
+struct berth_command_reply berth_command(struct berth_value *value, const uint8_t *bytes, size_t bytes_length, uint8_t *rows, size_t rows_length,
                                          uint8_t *killers, size_t killers_length, uint8_t *slots, size_t slots_length);
 
 /*
- * The memory becomes a fresh board's, whatever value and buffers held; S, R and T are 0. The reply's value is to be kept. Checked: 1; where it is refused nothing
- * changes.
+ * The memory becomes a fresh board's, whatever value and buffers held; S, R and T are 0. The value is lent as to berth_command. Checked: 1; where it is refused
+ * nothing changes.
  */
-struct berth_command_reply berth_fresh_board(struct berth_value value, uint8_t *rows, size_t rows_length, uint8_t *killers, size_t killers_length,
+struct berth_command_reply berth_fresh_board(struct berth_value *value, uint8_t *rows, size_t rows_length, uint8_t *killers, size_t killers_length,
                                              uint8_t *slots, size_t slots_length);
 
 /*
  * A file of commands, one after another, at most BERTH_FILE bytes. The memory becomes a fresh board's, whatever value and buffers held; then each command is run,
- * and those that are refused change nothing, up to the file's end or the first that cannot be read (3, 4). The reply's value is to be kept. Checked before
+ * and those that are refused change nothing, up to the file's end or the first that cannot be read (3, 4). The value is lent as to berth_command. Checked before
  * anything is changed: 1, 2.
  */
 struct berth_replay_reply {
     size_t ran;     /* commands that were run, also those that were refused */
     uint8_t number; /* 1 or 2, and nothing was changed; else how the file ended: 0 where all of it was run, or 3 or 4 */
-    struct berth_value value;
 };
 
-struct berth_replay_reply berth_replay(struct berth_value value, const uint8_t *file, size_t file_length, uint8_t *rows, size_t rows_length,
+struct berth_replay_reply berth_replay(struct berth_value *value, const uint8_t *file, size_t file_length, uint8_t *rows, size_t rows_length,
                                        uint8_t *killers, size_t killers_length, uint8_t *slots, size_t slots_length);
 
-/* The slots of a call. Checked: 1, 6, 18. */
+/*
+ * The questions. They write nothing, so each is handed a copy of the value.
+ *
+ * The slots of a call. Checked: 1, 6, 18.
+ */
 struct berth_slots_reply {
     uint32_t mask;  /* bit s is set exactly for an open slot s; 0 where refused */
     uint32_t ones;  /* the number of open slots; 0 where refused */
@@ -248,7 +251,7 @@ struct berth_support_reply berth_support(struct berth_value value, const uint8_t
 #define BERTH_CHECKED
 #endif
 
-/* A board with its memory. The functions on it hand its parts to the functions above, and keep the value that a command leaves. */
+/* A board with its memory. The functions on it lend its parts to the functions above. */
 struct berth_board {
     struct berth_value value;
     uint8_t rows[BERTH_ROWS];
@@ -263,23 +266,17 @@ struct berth_board {
 BERTH_CHECKED static inline int berth_board_clear(struct berth_board *board) {
     if (!berth_header_fits())
         return 0;
-    board->value = berth_fresh_board(berth_fresh(), board->rows, BERTH_ROWS, board->killers, BERTH_KILLERS, board->slots, BERTH_SLOTS).value;
+    berth_fresh_board(&board->value, board->rows, BERTH_ROWS, board->killers, BERTH_KILLERS, board->slots, BERTH_SLOTS);
     return 1;
 }
 
 /* Makes it a fresh board and runs a file of commands on it. */
 static inline struct berth_replay_reply berth_board_replay(struct berth_board *board, const uint8_t *bytes, size_t length) {
-    struct berth_replay_reply reply =
-        berth_replay(board->value, bytes, length, board->rows, BERTH_ROWS, board->killers, BERTH_KILLERS, board->slots, BERTH_SLOTS);
-    board->value = reply.value;
-    return reply;
+    return berth_replay(&board->value, bytes, length, board->rows, BERTH_ROWS, board->killers, BERTH_KILLERS, board->slots, BERTH_SLOTS);
 }
 
 static inline struct berth_command_reply berth_board_command(struct berth_board *board, const uint8_t *bytes, size_t length) {
-    struct berth_command_reply reply =
-        berth_command(board->value, bytes, length, board->rows, BERTH_ROWS, board->killers, BERTH_KILLERS, board->slots, BERTH_SLOTS);
-    board->value = reply.value;
-    return reply;
+    return berth_command(&board->value, bytes, length, board->rows, BERTH_ROWS, board->killers, BERTH_KILLERS, board->slots, BERTH_SLOTS);
 }
 
 /*

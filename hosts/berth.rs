@@ -16,7 +16,7 @@ pub const SLOTS: usize = 1024;
 pub const FILE: usize = 32768;
 
 /// The version that this file is of; the library has its own.
-pub const VERSION: u32 = 2;
+pub const VERSION: u32 = 3;
 
 /// The calls and the heads of the rules in force.
 #[repr(C)]
@@ -182,14 +182,12 @@ pub mod lent {
         reopened: usize,
         touched: usize,
         number: u8,
-        value: Value,
     }
 
     #[repr(C)]
     struct ReplayReply {
         ran: usize,
         number: u8,
-        value: Value,
     }
 
     #[repr(C)]
@@ -221,9 +219,9 @@ pub mod lent {
         fn berth_version() -> u32;
         fn berth_value_size() -> usize;
         fn berth_fresh() -> Value;
-        fn berth_command(value: Value, bytes: Lent, b: usize, rows: LentMut, r: usize, killers: LentMut, k: usize, slots: LentMut, s: usize) -> CommandReply;
-        fn berth_fresh_board(value: Value, rows: LentMut, r: usize, killers: LentMut, k: usize, slots: LentMut, s: usize) -> CommandReply;
-        fn berth_replay(value: Value, file: Lent, f: usize, rows: LentMut, r: usize, killers: LentMut, k: usize, slots: LentMut, s: usize) -> ReplayReply;
+        fn berth_command(value: *mut Value, bytes: Lent, b: usize, rows: LentMut, r: usize, killers: LentMut, k: usize, slots: LentMut, s: usize) -> CommandReply;
+        fn berth_fresh_board(value: *mut Value, rows: LentMut, r: usize, killers: LentMut, k: usize, slots: LentMut, s: usize) -> CommandReply;
+        fn berth_replay(value: *mut Value, file: Lent, f: usize, rows: LentMut, r: usize, killers: LentMut, k: usize, slots: LentMut, s: usize) -> ReplayReply;
         fn berth_open_slots(value: Value, rows: Lent, r: usize, killers: Lent, k: usize, slots: Lent, s: usize, call: u8) -> SlotsReply;
         fn berth_slot_state(value: Value, rows: Lent, r: usize, killers: Lent, k: usize, slots: Lent, s: usize, call: u8, slot: u8) -> ByteReply;
         fn berth_row_state(value: Value, rows: Lent, r: usize, killers: Lent, k: usize, slots: Lent, s: usize, rule: u8, row: u8) -> ByteReply;
@@ -260,7 +258,7 @@ pub mod lent {
         unsafe { berth_fresh() }
     }
 
-    /// A command. The value becomes the one that it leaves; a refusal leaves it and every byte as they were.
+    /// A command. The value is written in place; a refusal leaves it and every byte as they were.
     pub fn command(
         value: &mut Value,
         bytes: &[u8],
@@ -268,11 +266,11 @@ pub mod lent {
         killers: &mut [u8],
         slots: &mut [u8],
     ) -> Answer<Report> {
-        // SAFETY: each pointer is a slice's, with that slice's length, so it reaches as far; the three that are written are unique borrows, which overlap nothing.
-        // Whatever the slices and the value hold, the function returns and writes only inside them.
+        // SAFETY: each pointer is a slice's, with that slice's length, so it reaches as far, or the value's; the four that are written are unique borrows, which
+        // overlap nothing. Whatever the slices and the value hold, the function returns and writes only inside them.
         let reply = unsafe {
             berth_command(
-                *value,
+                value,
                 bytes.as_ptr(),
                 bytes.len(),
                 rows.as_mut_ptr(),
@@ -283,7 +281,6 @@ pub mod lent {
                 slots.len(),
             )
         };
-        *value = reply.value;
         let report = Report { struck: reply.struck, reopened: reply.reopened, touched: reply.touched };
         answer(reply.number, report)
     }
@@ -293,7 +290,7 @@ pub mod lent {
         // SAFETY: as in `command`.
         let reply = unsafe {
             berth_fresh_board(
-                *value,
+                value,
                 rows.as_mut_ptr(),
                 rows.len(),
                 killers.as_mut_ptr(),
@@ -302,7 +299,6 @@ pub mod lent {
                 slots.len(),
             )
         };
-        *value = reply.value;
         answer(reply.number, ())
     }
 
@@ -317,7 +313,7 @@ pub mod lent {
         // SAFETY: as in `command`.
         let reply = unsafe {
             berth_replay(
-                *value,
+                value,
                 file.as_ptr(),
                 file.len(),
                 rows.as_mut_ptr(),
@@ -328,7 +324,6 @@ pub mod lent {
                 slots.len(),
             )
         };
-        *value = reply.value;
         match answer(reply.number, ()).err() {
             Some(refusal @ (Refusal::BufferLength | Refusal::FileLength)) => Err(refusal),
             end => Ok(Replay { ran: reply.ran, end }),

@@ -90,10 +90,11 @@ static void ask(const struct berth_board *board) {
 /* A refusal leaves the value; a buffer of another length is one. */
 static void refuse(struct berth_board *board) {
     static const uint8_t lift[2] = {5, 5}, counts[33] = {1};
+    struct berth_value before = board->value;
     struct berth_command_reply reply =
-        berth_command(board->value, lift, 2, board->rows, BERTH_ROWS - 1, board->killers, BERTH_KILLERS, board->slots, BERTH_SLOTS);
+        berth_command(&board->value, lift, 2, board->rows, BERTH_ROWS - 1, board->killers, BERTH_KILLERS, board->slots, BERTH_SLOTS);
     same("short rows", reply.number, BERTH_BUFFER_LENGTH);
-    same("value", memcmp(&reply.value, &board->value, sizeof reply.value), 0);
+    same("value", memcmp(&board->value, &before, sizeof before), 0);
     same("body cut short", berth_board_command(board, lift, 1).number, BERTH_BODY_LENGTH);
     same("no byte", berth_board_command(board, lift, 0).number, BERTH_UNKNOWN_KIND);
     same("too many counts", berth_board_start(board, counts, 33).number, BERTH_BODY_LENGTH);
@@ -130,7 +131,7 @@ static void replay(struct berth_board *board) {
     same("unknown kind", reply.number, BERTH_UNKNOWN_KIND);
     same("clear", berth_board_clear(&other), 1);
     same("board after refusals alone", memcmp(board, &other, sizeof other), 0);
-    same("short rows", berth_fresh_board(board->value, board->rows, 1, board->killers, BERTH_KILLERS, board->slots, BERTH_SLOTS).number, BERTH_BUFFER_LENGTH);
+    same("short rows", berth_fresh_board(&board->value, board->rows, 1, board->killers, BERTH_KILLERS, board->slots, BERTH_SLOTS).number, BERTH_BUFFER_LENGTH);
 }
 
 /* The sizes that the header says, and the library's own. */
@@ -139,8 +140,8 @@ static void measure(void) {
     same("value's size", (long)berth_value_size(), BERTH_VALUE_SIZE);
     same("header fits", berth_header_fits(), 1);
     same("a board's size", (long)sizeof(struct berth_board), 22183);
-    same("size of a command's reply", (long)sizeof(struct berth_command_reply), 704);
-    same("size of a replay's reply", (long)sizeof(struct berth_replay_reply), 688);
+    same("size of a command's reply", (long)sizeof(struct berth_command_reply), 32);
+    same("size of a replay's reply", (long)sizeof(struct berth_replay_reply), 16);
 }
 
 /* Every number with its text; berth.rs has to say the same. */

@@ -37,6 +37,23 @@ impl Fenced {
     }
 }
 
+// The value as the library is lent it, between bytes of its own.
+#[repr(C)]
+struct FencedValue {
+    before: [u8; FENCE],
+    value: Value,
+    behind: [u8; FENCE],
+}
+
+fn lend<T>(value: &mut Value, call: impl FnOnce(&mut Value) -> T) -> T {
+    let fence = [FENCE_BYTE; FENCE];
+    let mut fenced = FencedValue { before: fence, value: *value, behind: fence };
+    let answer = call(&mut fenced.value);
+    assert!(fenced.before == fence && fenced.behind == fence, "something is written outside the value");
+    *value = fenced.value;
+    answer
+}
+
 #[derive(Clone, PartialEq)]
 pub struct Host {
     pub value: Value,
@@ -97,7 +114,7 @@ impl Host {
         let given = Fenced::new(bytes);
         let [rows, killers, slots] = &mut self.buffers;
         let (rows, killers, slots) = (rows.inside_mut(), killers.inside_mut(), slots.inside_mut());
-        let answer = lent::command(&mut self.value, given.inside(), rows, killers, slots);
+        let answer = lend(&mut self.value, |value| lent::command(value, given.inside(), rows, killers, slots));
         assert!(self.buffers.iter().all(Fenced::stands), "{bytes:?} writes outside the buffers");
         assert!(given == Fenced::new(bytes), "{bytes:?} is written to");
         assert!(answer.is_ok() || *self == before, "{bytes:?} is refused, and changes something");
@@ -109,7 +126,7 @@ impl Host {
         let given = Fenced::new(file);
         let [rows, killers, slots] = &mut self.buffers;
         let (rows, killers, slots) = (rows.inside_mut(), killers.inside_mut(), slots.inside_mut());
-        let answer = lent::replay(&mut self.value, given.inside(), rows, killers, slots);
+        let answer = lend(&mut self.value, |value| lent::replay(value, given.inside(), rows, killers, slots));
         assert!(self.buffers.iter().all(Fenced::stands), "a file of {} bytes writes outside the buffers", file.len());
         assert!(given == Fenced::new(file), "a file of {} bytes is written to", file.len());
         answer
@@ -119,7 +136,7 @@ impl Host {
     pub fn fresh_board(&mut self) -> Answer<()> {
         let [rows, killers, slots] = &mut self.buffers;
         let (rows, killers, slots) = (rows.inside_mut(), killers.inside_mut(), slots.inside_mut());
-        let answer = lent::fresh_board(&mut self.value, rows, killers, slots);
+        let answer = lend(&mut self.value, |value| lent::fresh_board(value, rows, killers, slots));
         assert!(self.buffers.iter().all(Fenced::stands), "a fresh board writes outside the buffers");
         answer
     }

@@ -3,12 +3,9 @@
 use mathlib.Core.Path.{_≡_}
 use mathlib.Core.List.{List}
 use Prim.Native.Nat.{ℕ, zero, suc, _+_, _*_, _≤_}
-use denote.Ref.{RefT}
 use lib.ListN.{length, take, drop}
-use Rattle.layout.specs.declared.value.Value.{Value}
 use Rattle.model.specs.declared.answer.Answer.{Answer}
 use Rattle.model.specs.declared.answer.Answer.the-variants as answer
-use Rattle.model.specs.declared.answer.Outcome.{Outcome}
 use Rattle.model.specs.declared.answer.OpenSlots.{OpenSlots}
 use Rattle.model.specs.declared.answer.OpenSlots.the-variants as slots
 use Rattle.model.specs.declared.answer.SlotState.{SlotState}
@@ -29,7 +26,7 @@ use Rattle.model.specs.Promise.{Promise}
 use Rattle.model.specs.Questions.{rowChecks, RowBytesPromise}
 use Rattle.board.specs.Fresh.{FreshPromise}
 use Rattle.board.specs.Replay.{ReplayPromise}
-use Rattle.layout.specs.Memory.{State, memory}
+use Rattle.layout.specs.Memory.{State}
 use Rattle.model.specs.Refusals.{firstOf}
 use Rattle.layout.specs.Places.{rowStart}
 
@@ -39,28 +36,24 @@ pub record Replied {A B : Type 0} (Promised : A → Type 0) (replyTo : A → B) 
   pub promise : Promised answer
   pub handed : reply ≡ replyTo answer
 
--- what a command answers and leaves, given the three buffers after it, keeps the entry's promise
-abbrev pub CommandPromise : State → List ℕ → RefT (List ℕ) → RefT (List ℕ) → RefT (List ℕ) → Outcome → Type 0
-CommandPromise before bytes rows killers slots o = Promise before bytes (o .answer) (memory (o .value) rows killers slots)
+-- S, R and T, which are 0 where refused
+abbrev pub commandReply : Answer → CommandReply
+commandReply (answer.Accepted r) = record { struck = r .struck; reopened = r .reopened; touched = r .touched; number = 0 }
+commandReply (answer.Refused n) = record { struck = 0; reopened = 0; touched = 0; number = n }
 
--- and so do a fresh board and a file that is replayed
-abbrev pub LentFreshPromise : State → RefT (List ℕ) → RefT (List ℕ) → RefT (List ℕ) → Outcome → Type 0
-LentFreshPromise before rows killers slots o = FreshPromise before (o .answer) (memory (o .value) rows killers slots)
-
-abbrev pub LentReplayPromise : State → List ℕ → RefT (List ℕ) → RefT (List ℕ) → RefT (List ℕ) → Replayed → Type 0
-LentReplayPromise before file rows killers slots r = ReplayPromise before file (r .number) (r .ran) (memory (r .value) rows killers slots)
-
--- S, R, T and the value that is left
-abbrev pub commandReplyBy : Answer → Value → CommandReply
-commandReplyBy (answer.Accepted r) value = record { struck = r .struck; reopened = r .reopened; touched = r .touched; number = 0; value = value }
-commandReplyBy (answer.Refused n) value = record { struck = 0; reopened = 0; touched = 0; number = n; value = value }
-
-abbrev pub commandReply : Outcome → CommandReply
-commandReply o = commandReplyBy (o .answer) (o .value)
-
--- how many commands were run, how the file ended, and the value that is left
+-- how many commands were run, and how the file ended
 abbrev pub replayReply : Replayed → ReplayReply
-replayReply r = record { ran = r .ran; number = r .number; value = r .value }
+replayReply r = record { ran = r .ran; number = r .number }
+
+-- of a command, a fresh board and a file that is replayed: what is replied and the memory that is left, value and all, keep the entry's promise
+abbrev pub CommandReplied : List ℕ → State → CommandReply → State → Type 0
+CommandReplied bytes before reply after = Replied (λ given. Promise before bytes given after) commandReply reply
+
+abbrev pub FreshReplied : State → CommandReply → State → Type 0
+FreshReplied before reply after = Replied (λ given. FreshPromise before given after) commandReply reply
+
+abbrev pub ReplayReplied : List ℕ → State → ReplayReply → State → Type 0
+ReplayReplied file before reply after = ReplayPromise before file (reply .number) (reply .ran) after
 
 -- the mask of a call's open slots, and its ones
 abbrev pub slotsReply : OpenSlots → SlotsReply

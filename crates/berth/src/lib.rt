@@ -1,7 +1,8 @@
-// The board for hosts in C and Rust: the entries and the five questions under their C names. The value beside the buffers is a plain C struct that
-// goes in and comes back by value; hosts/berth.h says the same for C, and two numbers tell a host whether its header is this library's.
+// The board for hosts in C and Rust: the entries and the five questions under their C names. The value beside the buffers is a plain C struct: lent by
+// pointer to the three functions that write it, and handed by value to the questions. hosts/berth.h says the same for C, and two numbers tell a host whether its
+// header is this library's.
 // Proved: each reply hands on an answer that keeps its promise of the model's specs, on any value and any buffers. Assumed: nothing here; of a host, that a
-// lent pointer reaches as far as its length says, and that no two lent buffers overlap.
+// lent pointer reaches as far as its length says, and that nothing lent to one call overlaps.
 pub mod reply; // the answers as C structs
 
 use crate::reply::CommandReply;
@@ -14,13 +15,13 @@ use crate::reply::SupportReply;
 use layout::value::Value;
 ghost use mathlib.Core.Path.{_≡_};
 ghost use Rattle.model.specs.Questions.{SlotsPromise, StatePromise, RowPromise, SupportPromise};
-ghost use Rattle.berth.specs.Replies.{Replied, CommandPromise, LentFreshPromise, LentReplayPromise, commandReply, replayReply, PlaceReplied, slotsReply, stateReply, rowReply, supportReply};
+ghost use Rattle.berth.specs.Replies.{Replied, CommandReplied, FreshReplied, ReplayReplied, PlaceReplied, slotsReply, stateReply, rowReply, supportReply};
 ghost use Rattle.layout.specs.Value.{freshValue};
 ghost use Rattle.layout.specs.Memory.{memory};
 ghost use Rattle.berth.specs.Version.{interfaceVersion, valueSize};
 
 // A host compares these two with what its header says. They take and return plain numbers, so that a host of any version can ask.
-const VERSION: u32 = 2;
+const VERSION: u32 = 3;
 
 // The bytes of `Value`: 416 of the heads and 263 of the draft.
 const VALUE_SIZE: usize = 679;
@@ -47,53 +48,57 @@ pub extern "C" fn berth_fresh() -> Value
     Value::fresh()
 }
 
-// A command. The host keeps the reply's value for the next one.
+// A command. The value is written in place, and stays as it was where the command is refused.
 #[no_mangle]
 pub extern "C" fn berth_command(
-    value: Value,
+    value: &mut Value,
     bytes: &[u8],
     rows: &mut [u8],
     killers: &mut [u8],
     slots: &mut [u8],
 ) -> CommandReply
-    ensures { λ r. ⌜ Replied
-        (CommandPromise (memory value (rows .entry) (killers .entry) (slots .entry)) (now (bytes .entry))
-        (rows .exit) (killers .exit) (slots .exit))
-        commandReply r ⌝ }
+    ensures { λ r. ⌜ CommandReplied
+        (now (bytes .entry)) (memory (now (value .entry)) (rows .entry) (killers .entry) (slots .entry)) r
+        (memory (now (value .exit)) (rows .exit) (killers .exit) (slots .exit)) ⌝ }
 {
-    reply::of_outcome(board::command(value, bytes, rows, killers, slots))
+    let outcome = board::command(*value, bytes, rows, killers, slots);
+    *value = outcome.value;
+    reply::of_outcome(outcome)
 }
 
-// The memory becomes a fresh board's, whatever it held. The host keeps the reply's value.
+// The memory becomes a fresh board's, whatever it held: the value is written in place, or stays as it was where it is refused.
 #[no_mangle]
 pub extern "C" fn berth_fresh_board(
-    value: Value,
+    value: &mut Value,
     rows: &mut [u8],
     killers: &mut [u8],
     slots: &mut [u8],
 ) -> CommandReply
-    ensures { λ r. ⌜ Replied
-        (LentFreshPromise (memory value (rows .entry) (killers .entry) (slots .entry)) (rows .exit) (killers .exit) (slots .exit))
-        commandReply r ⌝ }
+    ensures { λ r. ⌜ FreshReplied
+        (memory (now (value .entry)) (rows .entry) (killers .entry) (slots .entry)) r
+        (memory (now (value .exit)) (rows .exit) (killers .exit) (slots .exit)) ⌝ }
 {
-    reply::of_outcome(board::fresh_board(value, rows, killers, slots))
+    let outcome = board::fresh_board(*value, rows, killers, slots);
+    *value = outcome.value;
+    reply::of_outcome(outcome)
 }
 
-// The memory becomes a fresh board's, and the commands of a file are run on it. The host keeps the reply's value.
+// The memory becomes a fresh board's, and the commands of a file are run on it. The value is written in place, and stays as it was where the file is refused.
 #[no_mangle]
 pub extern "C" fn berth_replay(
-    value: Value,
+    value: &mut Value,
     file: &[u8],
     rows: &mut [u8],
     killers: &mut [u8],
     slots: &mut [u8],
 ) -> ReplayReply
-    ensures { λ r. ⌜ Replied
-        (LentReplayPromise (memory value (rows .entry) (killers .entry) (slots .entry)) (now (file .entry))
-        (rows .exit) (killers .exit) (slots .exit))
-        replayReply r ⌝ }
+    ensures { λ r. ⌜ ReplayReplied
+        (now (file .entry)) (memory (now (value .entry)) (rows .entry) (killers .entry) (slots .entry)) r
+        (memory (now (value .exit)) (rows .exit) (killers .exit) (slots .exit)) ⌝ }
 {
-    reply::of_replayed(board::replay(value, file, rows, killers, slots))
+    let replayed = board::replay(*value, file, rows, killers, slots);
+    *value = replayed.value;
+    reply::of_replayed(replayed)
 }
 
 // The mask of a call's open slots, with the number of its ones.

@@ -1,6 +1,5 @@
 // The answers as C structs: a number, 0 where there is an answer, and the answer's values.
 use board::Replayed;
-use layout::value::Value;
 use model::answer::Answer;
 use model::answer::OpenSlots;
 use model::answer::Outcome;
@@ -11,7 +10,7 @@ ghost use mathlib.Core.Path.{_≡_};
 ghost use Rattle.berth.specs.Replies.{commandReply, replayReply, slotsReply, stateReply, rowReply, supportReply};
 ghost use Rattle.berth.specs.Places.{rowPlaceReply};
 
-// What a command changed: S, R and T (SCOPE 3.7), which are 0 where refused; and the value that it leaves beside the buffers.
+// What a command changed: S, R and T (SCOPE 3.7), which are 0 where refused.
 #[repr(C)]
 pub struct CommandReply {
     // slots open before and struck after
@@ -20,15 +19,13 @@ pub struct CommandReply {
     pub reopened: usize,
     pub touched: usize,
     pub number: u8,
-    pub value: Value,
 }
 
-// How many commands of a file were run, and how it ended; and the value that is left beside the buffers.
+// How many commands of a file were run, and how it ended.
 #[repr(C)]
 pub struct ReplayReply {
     pub ran: usize,
     pub number: u8,
-    pub value: Value,
 }
 
 // The mask of a call's open slots and the number of its ones; 0 and 0 where refused.
@@ -68,24 +65,21 @@ pub struct SupportReply {
 }
 
 pub fn of_outcome(outcome: Outcome) -> CommandReply
-    ensures { λ r. ⌜ r ≡ commandReply outcome ⌝ }
+    ensures { λ r. ⌜ r ≡ commandReply (outcome .answer) ⌝ }
 {
     let answer = outcome.answer;
-    let value = outcome.value;
     match answer {
         Answer::Accepted(report) => CommandReply {
             struck: report.struck,
             reopened: report.reopened,
             touched: report.touched,
             number: 0,
-            value,
         },
         Answer::Refused(number) => CommandReply {
             struck: 0,
             reopened: 0,
             touched: 0,
             number,
-            value,
         },
     }
 }
@@ -93,11 +87,9 @@ pub fn of_outcome(outcome: Outcome) -> CommandReply
 pub fn of_replayed(replayed: Replayed) -> ReplayReply
     ensures { λ r. ⌜ r ≡ replayReply replayed ⌝ }
 {
-    let value = replayed.value;
     ReplayReply {
         ran: replayed.ran,
         number: replayed.number,
-        value,
     }
 }
 
