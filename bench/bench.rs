@@ -53,46 +53,89 @@ fn busiest() -> Case {
     }
 }
 
+/// Numbers below n, the same in every run.
+struct Random(u64);
+
+impl Random {
+    fn below(&mut self, n: usize) -> usize {
+        self.0 = self.0.wrapping_mul(6364136223846793005).wrapping_add(1442695040888963407);
+        (self.0 >> 33) as usize % n
+    }
+}
+
+/// The three calls of rule r, where rules join all calls.
+fn three_calls(r: usize) -> [usize; 3] {
+    [r % 32, (r + 1 + r / 32) % 32, (r + 5 + 2 * (r / 32)) % 32]
+}
+
 /// Rules of three calls. Eight full plans keep some slots open whatever happens; the other rows are arbitrary, and most of their slots are struck. With 24 rules
 /// each of them strikes something of its own; with 64 nearly every slot is struck by several, so that a lift touches many and reopens few.
 fn dense(name: &'static str, number_of_rules: usize, rounds: usize) -> Case {
-    let mut state: u64 = 13;
-    let mut below = |n: usize| {
-        state = state.wrapping_mul(6364136223846793005).wrapping_add(1442695040888963407);
-        (state >> 33) as usize % n
-    };
-    let plans: Vec<Vec<usize>> = (0..8).map(|_| (0..32).map(|_| below(32)).collect()).collect();
+    let mut random = Random(13);
+    let plans: Vec<Vec<usize>> = (0..8).map(|_| (0..32).map(|_| random.below(32)).collect()).collect();
     let mut rules = vec![];
     for r in 0..number_of_rules {
-        let calls = [r % 32, (r + 1 + r / 32) % 32, (r + 5 + 2 * (r / 32)) % 32];
+        let calls = three_calls(r);
         let of_plan = |plan: &Vec<usize>| calls.iter().map(|call| plan[*call]).collect();
         let mut rows: Vec<Vec<usize>> = plans.iter().map(of_plan).collect();
-        rows.extend((8..64).map(|_| vec![below(32), below(32), below(32)]));
+        rows.extend((8..64).map(|_| vec![random.below(32), random.below(32), random.below(32)]));
         rules.push(Rule::new(r, &calls, rows));
     }
     Case { name, counts: vec![32; 32], measured: (0..rules.len()).collect(), rules, rounds }
 }
 
+/// 64 rules of three calls with equal slots and as many arbitrary rows. Six of the rules leave out five equal slots each, which strikes them on nearly every call:
+/// these six are lifted and put, so that each put strikes many slots through many rules, and each lift reopens them.
+fn many_strikes() -> Case {
+    let mut random = Random(13);
+    let mut rules = vec![];
+    for r in 0..64 {
+        let left_out = |s: usize| r % 11 == 0 && s / 5 == r / 11;
+        let mut rows: Vec<Vec<usize>> = (0..32).filter(|s| !left_out(*s)).map(|s| vec![s, s, s]).collect();
+        let arbitrary = (0..32).map(|_| vec![random.below(32), random.below(32), random.below(32)]);
+        rows.extend(arbitrary.filter(|row| !row.iter().any(|s| left_out(*s))));
+        rules.push(Rule::new(r, &three_calls(r), rows));
+    }
+    let measured = (0..64).filter(|r| r % 11 == 0).collect();
+    Case { name: "many strikes", counts: vec![32; 32], rules, measured, rounds: 60 }
+}
+
 /// Equal slots from call to call, and one rule at the end of the chain that leaves a single slot: putting it strikes 992 slots, and lifting it reopens them.
-fn chain() -> Case {
+fn long_chain() -> Case {
     let link = |c: usize| Rule::new(c, &[c, c + 1], (0..32).map(|s| vec![s, s]).collect());
     let mut rules: Vec<Rule> = (0..31).map(link).collect();
     rules.push(Rule::new(63, &[0], vec![vec![0]]));
     Case { name: "long chain", counts: vec![32; 32], rules, measured: vec![31], rounds: 2000 }
 }
 
+/// Twelve calls of 32 slots, each one or two slots after the one before: every link is lifted and put.
+fn chain() -> Case {
+    let link = |c: usize| Rule::new(c, &[c, c + 1], (0..31).flat_map(|s| [vec![s, s + 1], vec![s, s + 2]]).filter(|row| row[1] < 32).collect());
+    Case { name: "chain", counts: vec![32; 12], rules: (0..11).map(link).collect(), measured: (0..11).collect(), rounds: 1000 }
+}
+
+/// The pairs of slots below n that pass.
+fn pairs(n: usize, holds: fn(usize, usize) -> bool) -> Vec<Vec<usize>> {
+    let all = (0..n).flat_map(|a| (0..n).map(move |b| (a, b)));
+    all.filter(|(a, b)| holds(*a, *b)).map(|(a, b)| vec![a, b]).collect()
+}
+
 /// Six calls of eight slots: each goes before the next, two have slots of their own, and three lie apart from each other.
 fn everyday() -> Case {
-    let pairs = |holds: fn(usize, usize) -> bool| {
-        let all = (0..8).flat_map(|a| (0..8).map(move |b| (a, b)));
-        all.filter(|(a, b)| holds(*a, *b)).map(|(a, b)| vec![a, b]).collect::<Vec<_>>()
-    };
-    let mut rules: Vec<Rule> = (0..5).map(|c| Rule::new(c, &[c, c + 1], pairs(|a, b| a < b))).collect();
+    let mut rules: Vec<Rule> = (0..5).map(|c| Rule::new(c, &[c, c + 1], pairs(8, |a, b| a < b))).collect();
     rules.push(Rule::new(5, &[0], vec![vec![0], vec![1]]));
     rules.push(Rule::new(6, &[3], vec![vec![3], vec![5]]));
     let apart = (0..8).flat_map(|a| [vec![a, (a + 2) % 8, (a + 4) % 8], vec![a, (a + 3) % 8, (a + 5) % 8]]);
     rules.push(Rule::new(7, &[1, 3, 5], apart.collect()));
     Case { name: "everyday", counts: vec![8; 6], measured: (0..rules.len()).collect(), rules, rounds: 2000 }
+}
+
+/// Twelve calls of ten slots: each goes before the next but one, neighbours lie apart, and each third call has slots of its own.
+fn busy_day() -> Case {
+    let mut rules: Vec<Rule> = (0..10).map(|c| Rule::new(c, &[c, c + 2], pairs(10, |a, b| a < b))).collect();
+    rules.extend((0..11).map(|c| Rule::new(10 + c, &[c, c + 1], pairs(10, |a, b| a + 2 <= b || (b + 2 <= a && b + 5 > a)))));
+    rules.extend((0..4).map(|k| Rule::new(21 + k, &[3 * k], (k..k + 5).map(|s| vec![s]).collect())));
+    Case { name: "busy day", counts: vec![10; 12], measured: (0..rules.len()).collect(), rules, rounds: 1000 }
 }
 
 /// Nanoseconds that reading the clock takes by itself.
@@ -287,7 +330,7 @@ fn measure(case: &Case, clock: u64) {
 
 fn line(name: &str, command: &str, changes: String, [ours, afresh, native]: [f64; 3]) {
     println!(
-        "| {:10} | {:4} | {:31} | {:9.0} | {:9.0} | {:5.2} | {:9.0} | {:5.2} |",
+        "| {:12} | {:4} | {:31} | {:9.0} | {:9.0} | {:5.2} | {:9.0} | {:5.2} |",
         name,
         command,
         changes,
@@ -301,7 +344,7 @@ fn line(name: &str, command: &str, changes: String, [ours, afresh, native]: [f64
 
 /// The boards of this name, or all where it is empty. A name that none has ends the program with the list of them.
 fn chosen(name: &str) -> Vec<Case> {
-    let mut cases = vec![busiest(), dense("dense", 24, 60), dense("overfull", 64, 20), chain(), everyday()];
+    let mut cases = vec![busiest(), dense("dense", 24, 60), dense("overfull", 64, 20), many_strikes(), long_chain(), chain(), everyday(), busy_day()];
     let names: Vec<&str> = cases.iter().map(|case| case.name).collect();
     if !name.is_empty() && !names.contains(&name) {
         eprintln!("there is no board '{}'; there are: {}", name, names.join(", "));
@@ -316,11 +359,11 @@ fn main() {
     let clock = clock_cost();
     println!("Nanoseconds per command, the mean over the measured rules of each one's median; reading the clock, {} ns, is taken off.\nA ratio above 1: the library is faster.\n", clock);
     println!(
-        "| {:10} | {:4} | {:31} | {:>9} | {:>9} | {:5} | {:>9} | {:5} |",
+        "| {:12} | {:4} | {:31} | {:>9} | {:>9} | {:5} | {:>9} | {:5} |",
         "board", "kind", "slots, per command", "library", "afresh", "ratio", "native", "ratio"
     );
     println!(
-        "|------------|------|---------------------------------|-----------|-----------|-------|-----------|-------|"
+        "|--------------|------|---------------------------------|-----------|-----------|-------|-----------|-------|"
     );
     cases.iter().for_each(|case| measure(case, clock));
 }
