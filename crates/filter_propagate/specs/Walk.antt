@@ -10,7 +10,7 @@ use Rattle.tables.specs.Masks.{IsMask}
 use Rattle.tables.specs.Sweep.{One, Swept}
 use Rattle.layout.specs.Places.{callOf, slotOf, killerOf, causeOf}
 use Rattle.masks.specs.declared.columns.Columns.{Columns}
-use Rattle.masks.specs.Columns.{columnOf, In}
+use Rattle.masks.specs.Columns.{columnOf, InColumn}
 use Rattle.filter_propagate.specs.Rows.{Support}
 
 -- m is the mask of the struck slots of column k's call; of none past the n columns
@@ -42,24 +42,24 @@ pub record WithRow (found row : Columns) (killer : ℕ) (x : Columns) : Type 0 w
 -- a row's killer: a dead row keeps it; a living row gets the first column whose slot is struck, if there is one
 pub record MaskKilled (rows : List ℕ) (struck : Columns) (p w old new : ℕ) : Type 0 where
   pub dead : (old ≡ 255 → ⊥) → new ≡ old
-  pub living : old ≡ 255 → ((new ≡ 255) × ((k : ℕ) → k < 4 → In struck k (slotOf rows p w k) → ⊥))
-      ⊎ ((new < 4) × In struck new (slotOf rows p w new) × ((k : ℕ) → k < new → In struck k (slotOf rows p w k) → ⊥))
+  pub living : old ≡ 255 → ((new ≡ 255) × ((k : ℕ) → k < 4 → InColumn struck k (slotOf rows p w k) → ⊥))
+      ⊎ ((new < 4) × InColumn struck new (slotOf rows p w new) × ((k : ℕ) → k < new → InColumn struck k (slotOf rows p w k) → ⊥))
 
 -- row w is treated
 pub record RowWalked (rows : List ℕ) (struck : Columns) (p w : ℕ) (killers killed : List ℕ) (found x : Columns) : Type 0 where
   pub kill : One 0 (MaskKilled rows struck p) (64 * p) w killers killed
-  pub joins : (k : ℕ) → k < 4 → killerOf killed p w ≡ 255 → In x k (slotOf rows p w k)
-  pub stays : (k s : ℕ) → k < 4 → In found k s → In x k s
-  pub only : (k s : ℕ) → k < 4 → In x k s → In found k s ⊎ ((killerOf killed p w ≡ 255) × (slotOf rows p w k ≡ s))
+  pub joins : (k : ℕ) → k < 4 → killerOf killed p w ≡ 255 → InColumn x k (slotOf rows p w k)
+  pub stays : (k s : ℕ) → k < 4 → InColumn found k s → InColumn x k s
+  pub only : (k s : ℕ) → k < 4 → InColumn x k s → InColumn found k s ⊎ ((killerOf killed p w ≡ 255) × (slotOf rows p w k ≡ s))
 
 -- the first m rows are treated: the slots found are those with a support
 pub record Walked (rows : List ℕ) (struck : Columns) (p m : ℕ) (killers killed : List ℕ) (x : Columns) : Type 0 where
   pub kills : Swept 0 (MaskKilled rows struck p) (64 * p) m killers killed
-  pub has : (k s : ℕ) → k < 4 → Support rows killed p m k s → In x k s
-  pub only : (k s : ℕ) → k < 4 → In x k s → Support rows killed p m k s
+  pub has : (k s : ℕ) → k < 4 → Support rows killed p m k s → InColumn x k s
+  pub only : (k s : ℕ) → k < 4 → InColumn x k s → Support rows killed p m k s
 
 -- the same, of the first n columns
 pub record WalkedColumns (rows : List ℕ) (struck : Columns) (p n m : ℕ) (killers killed : List ℕ) (x : Columns) : Type 0 where
   pub kills : Swept 0 (MaskKilled rows struck p) (64 * p) m killers killed
-  pub has : (k s : ℕ) → k < n → Support rows killed p m k s → In x k s
-  pub only : (k s : ℕ) → k < n → In x k s → Support rows killed p m k s
+  pub has : (k s : ℕ) → k < n → Support rows killed p m k s → InColumn x k s
+  pub only : (k s : ℕ) → k < n → InColumn x k s → Support rows killed p m k s

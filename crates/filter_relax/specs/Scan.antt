@@ -9,7 +9,7 @@ use lib.Dec.{eqb}
 use lib.ListN.{getD}
 use Rattle.tables.specs.Masks.{Has, IsMask}
 use Rattle.masks.specs.declared.columns.Columns.{Columns}
-use Rattle.masks.specs.Columns.{columnOf, In, ColumnSets}
+use Rattle.masks.specs.Columns.{columnOf, InColumn, ColumnSets}
 use Rattle.filter_propagate.specs.Queue.{IsFlagged}
 use Rattle.filter_relax.specs.Reach.{Reach}
 use Rattle.filter_relax.specs.Spread.{Spread}
@@ -27,13 +27,13 @@ pub record WithHit (found row : Columns) (hit : ℕ) (x : Columns) : Type 0 wher
 -- killer byte x of row w of rule q is one of four columns, and its slot is in the sets
 pub record KillerMet (rows : List ℕ) (sets : Columns) (q w x : ℕ) : Type 0 where
   pub column : x < 4
-  pub slot : In sets x (slotOf rows q w x)
+  pub slot : InColumn sets x (slotOf rows q w x)
 
 -- one row is treated: its slots are found where its killer's slot is in the sets
 pub record RowScanned (rows killers : List ℕ) (sets : Columns) (q w : ℕ) (found x : Columns) : Type 0 where
-  pub joins : (k : ℕ) → k < 4 → KillerMet rows sets q w (killerOf killers q w) → In x k (slotOf rows q w k)
-  pub stays : (k s : ℕ) → k < 4 → In found k s → In x k s
-  pub only : (k s : ℕ) → k < 4 → In x k s → In found k s ⊎ (KillerMet rows sets q w (killerOf killers q w) × (slotOf rows q w k ≡ s))
+  pub joins : (k : ℕ) → k < 4 → KillerMet rows sets q w (killerOf killers q w) → InColumn x k (slotOf rows q w k)
+  pub stays : (k s : ℕ) → k < 4 → InColumn found k s → InColumn x k s
+  pub only : (k s : ℕ) → k < 4 → InColumn x k s → InColumn found k s ⊎ (KillerMet rows sets q w (killerOf killers q w) × (slotOf rows q w k ≡ s))
 
 -- one of the first m rows whose killer's slot is in the sets holds slot s in column k
 pub record HitRow (rows killers : List ℕ) (sets : Columns) (q m k s : ℕ) : Type 0 where
@@ -44,13 +44,13 @@ pub record HitRow (rows killers : List ℕ) (sets : Columns) (q m k s : ℕ) : T
 
 -- the first m rows are treated
 pub record Scanned (rows killers : List ℕ) (sets : Columns) (q m : ℕ) (x : Columns) : Type 0 where
-  pub has : (k s : ℕ) → k < 4 → HitRow rows killers sets q m k s → In x k s
-  pub only : (k s : ℕ) → k < 4 → In x k s → HitRow rows killers sets q m k s
+  pub has : (k s : ℕ) → k < 4 → HitRow rows killers sets q m k s → InColumn x k s
+  pub only : (k s : ℕ) → k < 4 → InColumn x k s → HitRow rows killers sets q m k s
 
 -- the same for the first n columns
 pub record ScannedColumns (rows killers : List ℕ) (sets : Columns) (q n m : ℕ) (x : Columns) : Type 0 where
-  pub has : (k s : ℕ) → k < n → HitRow rows killers sets q m k s → In x k s
-  pub only : (k s : ℕ) → k < n → In x k s → HitRow rows killers sets q m k s
+  pub has : (k s : ℕ) → k < n → HitRow rows killers sets q m k s → InColumn x k s
+  pub only : (k s : ℕ) → k < n → InColumn x k s → HitRow rows killers sets q m k s
 
 -- slot s of call c has the cause q and is not visited
 abbrev pub Wanted : List ℕ → List ℕ → ℕ → ℕ → ℕ → Type 0
@@ -75,8 +75,8 @@ pub record Common (x y r : Columns) : Type 0 where
 pub record NewSlots (rows killers scope visited : List ℕ) (wanted : Columns) (q n m : ℕ) (x : Columns) : Type 0 where
   pub sets : Columns
   pub known : ColumnSets visited scope q n sets
-  pub has : (k s : ℕ) → k < n → In wanted k s → HitRow rows killers sets q m k s → In x k s
-  pub only : (k s : ℕ) → k < 4 → In x k s → (k < n) × In wanted k s × HitRow rows killers sets q m k s
+  pub has : (k s : ℕ) → k < n → InColumn wanted k s → HitRow rows killers sets q m k s → InColumn x k s
+  pub only : (k s : ℕ) → k < 4 → InColumn x k s → (k < n) × InColumn wanted k s × HitRow rows killers sets q m k s
 
 -- what a slot visited before leads to by P is visited, and what is visited is reached by P from the visited of before; `calls` has the calls with a new one
 pub record Scans (P : ℕ → ℕ → Type 0) (old new : List Bool) (calls : ℕ) : Type 0 where

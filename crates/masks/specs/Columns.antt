@@ -15,8 +15,8 @@ columnOf x (suc (suc zero)) = x .c2
 columnOf x (suc (suc (suc k))) = x .c3
 
 -- slot s is in the set of column k
-abbrev pub In : Columns → ℕ → ℕ → Type 0
-In x k s = Has (columnOf x k) s
+abbrev pub InColumn : Columns → ℕ → ℕ → Type 0
+InColumn x k s = Has (columnOf x k) s
 
 -- no slot for any column
 abbrev pub noColumns : Columns

@@ -16,7 +16,7 @@ use Rattle.tables.specs.Masks.{Has, IsMask}
 use Rattle.layout.specs.Places.{callOf, slotPlace, causeOf}
 use Rattle.tables.specs.Laws.Count.{count-le, count-set}
 use Rattle.tables.specs.Laws.Assign.{assign-none, assign-more, assign-same, assign-at, assign-set, assign-keep}
-use Rattle.tables.specs.Laws.Left.{Left, Taken, Of, left-all, left-lowest, left-more, taken-lowest, assign-lowest, assign-taken}
+use Rattle.tables.specs.Laws.Left.{Left, Removed, Of, left-all, left-lowest, left-more, taken-lowest, assign-lowest, assign-taken}
 use Rattle.tables.specs.Laws.Lost.{only-some, only-same}
 use Rattle.tables.specs.Laws.Facts.{eq-or-ne}
 use Rattle.tables.specs.Laws.Masks.{power-same, power-has, shl-one, has-some, has-below, or-left, or-right, or-either}
@@ -96,7 +96,7 @@ strikes-open P Q back forth x =
 -- THE SLOTS OF A MASK, from the lowest on: those that are not left are struck
 pub record Striking (lost p c : ℕ) (old new : List ℕ) (left total : ℕ) : Type 0 where
   pub lowest-first : Left 32 lost left
-  pub struck : SlotsStruck (Of (λ s j. j ≡ slotPlace c s) (Taken lost left)) p total old new
+  pub struck : SlotsStruck (Of (λ s j. j ≡ slotPlace c s) (Removed lost left)) p total old new
 
 pub striking-none : (lost p c : ℕ) (l : List ℕ) → lost < 4294967296 → Striking lost p c l l lost 0
 striking-none lost p c l h = record { lowest-first = left-all 32 lost h; struck = strikes-keep _ p l (λ j q o. q .1 .out (q .1 .had)) }

@@ -13,7 +13,7 @@ use Rattle.tables.specs.Masks.{Has}
 use Rattle.tables.specs.Sweep.{Swept}
 use Rattle.layout.specs.Places.{slotOf, killerOf, rowCell}
 use Rattle.masks.specs.declared.columns.Columns.{Columns}
-use Rattle.masks.specs.Columns.{columnOf, In, noColumns, firstTwo, firstThree, RowMasks}
+use Rattle.masks.specs.Columns.{columnOf, InColumn, noColumns, firstTwo, firstThree, RowMasks}
 use Rattle.filter_propagate.specs.Rows.{HoldsStruck, Killed, Support, Unsupported}
 use Rattle.filter_propagate.specs.Strikes.{NotIn}
 use Rattle.filter_propagate.specs.Walk.{StruckSets, FirstMeeting, killerNow, aliveSet, WithRow, MaskKilled, RowWalked, Walked, WalkedColumns}
@@ -32,10 +32,10 @@ meeting-none x y none = record { none = λ e. none; some = λ n. absurd (n refl)
 -- A ROW'S KILLER, from the masks of its slots
 module _ (rows : List ℕ) (row struck : Columns) (p w : ℕ) (masks : RowMasks rows p w row) where
   -- the row's slot of a column is struck where the two sets meet there
-  apart : (k : ℕ) → k < 4 → bitAnd (columnOf row k) (columnOf struck k) ≡ 0 → In struck k (slotOf rows p w k) → ⊥
+  apart : (k : ℕ) → k < 4 → bitAnd (columnOf row k) (columnOf struck k) ≡ 0 → InColumn struck k (slotOf rows p w k) → ⊥
   apart k l e i = omega (arith, apart-clear (slotOf rows p w k) (columnOf struck k) (rw (masks .each k l) at e))
 
-  meets : (k : ℕ) → k < 4 → (bitAnd (columnOf row k) (columnOf struck k) ≡ 0 → ⊥) → In struck k (slotOf rows p w k)
+  meets : (k : ℕ) → k < 4 → (bitAnd (columnOf row k) (columnOf struck k) ≡ 0 → ⊥) → InColumn struck k (slotOf rows p w k)
   meets k l n =
       ⊎-elim
       (λ i. i)
@@ -49,17 +49,17 @@ module _ (rows : List ℕ) (row struck : Columns) (p w : ℕ) (masks : RowMasks 
       (λ (n : old ≡ 255 → ⊥). rw (ne-eqb old 255 n) (record { dead = λ o. refl; living = λ e. absurd (n e) }))
       (eq-or-ne old 255)
     where
-      living : (first ≡ 255) ⊎ (first ≡ 255 → ⊥) → ((first ≡ 255) × ((k : ℕ) → k < 4 → In struck k (slotOf rows p w k) → ⊥))
-          ⊎ ((first < 4) × In struck first (slotOf rows p w first) × ((k : ℕ) → k < first → In struck k (slotOf rows p w k) → ⊥))
+      living : (first ≡ 255) ⊎ (first ≡ 255 → ⊥) → ((first ≡ 255) × ((k : ℕ) → k < 4 → InColumn struck k (slotOf rows p w k) → ⊥))
+          ⊎ ((first < 4) × InColumn struck first (slotOf rows p w first) × ((k : ℕ) → k < first → InColumn struck k (slotOf rows p w k) → ⊥))
       living (inl e) = inl (e, λ k l. apart k l (f .none e k l))
       living (inr n) = let s = f .some n in let l = s .0 in inr (s .0, meets first (s .0) (s .1), λ k lk. apart k (omega arith) (s .2 k lk))
 
   -- what is found with the row's slots: those of a row that lives
   module _ (found x : Columns) (killer : ℕ) (more : WithRow found row killer x) where
-    found-joins : killer ≡ 255 → (k : ℕ) → k < 4 → In x k (slotOf rows p w k)
+    found-joins : killer ≡ 255 → (k : ℕ) → k < 4 → InColumn x k (slotOf rows p w k)
     found-joins e k l = rw (more .each k l, eq-eqb killer 255 e, masks .each k l) (or-right (columnOf found k) _ _ (power-same (slotOf rows p w k)))
 
-    found-stays : (k s : ℕ) → k < 4 → In found k s → In x k s
+    found-stays : (k s : ℕ) → k < 4 → InColumn found k s → InColumn x k s
     found-stays k s l i = rw (more .each k l) (or-left _ _ s i)
 
     added : (k s : ℕ) → k < 4 → Has (aliveSet killer (columnOf row k)) s → (killer ≡ 255) × (slotOf rows p w k ≡ s)
@@ -69,7 +69,7 @@ module _ (rows : List ℕ) (row struck : Columns) (p w : ℕ) (masks : RowMasks 
         (λ (n : killer ≡ 255 → ⊥). absurd (has-some _ s (rw (ne-eqb killer 255 n) at h) refl))
         (eq-or-ne killer 255)
 
-    found-only : (k s : ℕ) → k < 4 → In x k s → In found k s ⊎ ((killer ≡ 255) × (slotOf rows p w k ≡ s))
+    found-only : (k s : ℕ) → k < 4 → InColumn x k s → InColumn found k s ⊎ ((killer ≡ 255) × (slotOf rows p w k ≡ s))
     found-only k s l i = ⊎-elim (λ o. inl o) (λ h. inr (added k s l h)) (or-either _ _ s (rw (more .each k l) at i))
 
 -- ONE ROW of the walk
@@ -104,7 +104,7 @@ module _ (rows : List ℕ) (struck : Columns) (p : ℕ) where
       same : (v : ℕ) → v < w → killerOf killed p v ≡ killerOf mid p v
       same v l = b .kill .other (64 * p + v) (λ e. omega arith)
 
-      has : (k s : ℕ) → k < 4 → Support rows killed p (w + 1) k s → In y k s
+      has : (k s : ℕ) → k < 4 → Support rows killed p (w + 1) k s → InColumn y k s
       has k s l z =
           let inside = z .inside in
           let le : z .row ≤ w = omega arith in
@@ -114,7 +114,7 @@ module _ (rows : List ℕ) (struck : Columns) (p : ℕ) where
           b .stays k s l (a .has k s l (record { row = z .row; inside = lt; lives = sym (same (z .row) lt) ∙ z .lives; holds = z .holds })))
           (eq-or-lt-of-le le)
 
-      only : (k s : ℕ) → k < 4 → In y k s → Support rows killed p (w + 1) k s
+      only : (k s : ℕ) → k < 4 → InColumn y k s → Support rows killed p (w + 1) k s
       only k s l i =
           ⊎-elim
           (λ o.
@@ -129,16 +129,16 @@ module _ (rows : List ℕ) (struck : Columns) (p : ℕ) where
 
 -- WHAT THE MASKS MEAN: a row is killed as its slots' bytes say
 module _ (rows slots scope : List ℕ) (p n : ℕ) (few : n ≤ 4) (struck : Columns) (known : StruckSets slots scope p n struck) where
-  in-struck : (w k : ℕ) → k < n → In struck k (slotOf rows p w k) → HoldsStruck rows slots scope p w k
+  in-struck : (w k : ℕ) → k < n → InColumn struck k (slotOf rows p w k) → HoldsStruck rows slots scope p w k
   unfolding rowCell
   in-struck w k l i = known .each k (omega arith) .here l .only (slotOf rows p w k) i .1
 
-  struck-in : (w k : ℕ) → k < n → HoldsStruck rows slots scope p w k → In struck k (slotOf rows p w k)
+  struck-in : (w k : ℕ) → k < n → HoldsStruck rows slots scope p w k → InColumn struck k (slotOf rows p w k)
   unfolding rowCell
   struck-in w k l h = known .each k (omega arith) .here l .has (slotOf rows p w k) (omega arith) h
 
   -- a column past the rule's holds nothing struck
-  in-column : (w k : ℕ) → k < 4 → In struck k (slotOf rows p w k) → k < n
+  in-column : (w k : ℕ) → k < 4 → InColumn struck k (slotOf rows p w k) → k < n
   in-column w k l i =
       ⊎-elim
       (λ (h : k < n). h)
@@ -167,16 +167,16 @@ module _ {rows : List ℕ} {struck : Columns} {p m : ℕ} {killers killed : List
   walked-two n l v =
       record {
         kills = v .kills;
-        has = λ k s lk h. two (λ j. In x j s → In (firstTwo x) j s) (λ i. i) (λ i. i) k (omega arith) (v .has k s (omega arith) h);
-        only = λ k s lk i. v .only k s (omega arith) (two (λ j. In (firstTwo x) j s → In x j s) (λ i. i) (λ i. i) k (omega arith) i);
+        has = λ k s lk h. two (λ j. InColumn x j s → InColumn (firstTwo x) j s) (λ i. i) (λ i. i) k (omega arith) (v .has k s (omega arith) h);
+        only = λ k s lk i. v .only k s (omega arith) (two (λ j. InColumn (firstTwo x) j s → InColumn x j s) (λ i. i) (λ i. i) k (omega arith) i);
       }
 
   pub walked-three : (n : ℕ) → n < 4 → Walked rows struck p m killers killed x → WalkedColumns rows struck p n m killers killed (firstThree x)
   walked-three n l v =
       record {
         kills = v .kills;
-        has = λ k s lk h. three (λ j. In x j s → In (firstThree x) j s) (λ i. i) (λ i. i) (λ i. i) k (omega arith) (v .has k s (omega arith) h);
-        only = λ k s lk i. v .only k s (omega arith) (three (λ j. In (firstThree x) j s → In x j s) (λ i. i) (λ i. i) (λ i. i) k (omega arith) i);
+        has = λ k s lk h. three (λ j. InColumn x j s → InColumn (firstThree x) j s) (λ i. i) (λ i. i) (λ i. i) k (omega arith) (v .has k s (omega arith) h);
+        only = λ k s lk i. v .only k s (omega arith) (three (λ j. InColumn (firstThree x) j s → InColumn x j s) (λ i. i) (λ i. i) (λ i. i) k (omega arith) i);
       }
 
   pub walked-four : (n : ℕ) → n ≤ 4 → Walked rows struck p m killers killed x → WalkedColumns rows struck p n m killers killed x

@@ -16,7 +16,7 @@ use Rattle.tables.specs.Laws.Assign.{assign-set, assign-same}
 use Rattle.tables.specs.Laws.Count.{count-le, count-append, count-clear}
 use Rattle.tables.specs.Laws.Facts.{true-false}
 use Rattle.tables.specs.Laws.Flags.{flags-length, flags-set, flag-set, flag-has, flag-below, all-set, all-place, count-flags}
-use Rattle.tables.specs.Laws.Left.{Left, Taken, Of, left-all, left-lowest, left-more, assign-left, assign-lowest, assign-taken}
+use Rattle.tables.specs.Laws.Left.{Left, Removed, Of, left-all, left-lowest, left-more, assign-left, assign-lowest, assign-taken}
 use Rattle.tables.specs.Laws.Masks.{has-below}
 use Rattle.filter_propagate.specs.Queue.{IsFlagged}
 use Rattle.filter_relax.specs.Touched.{Covers}
@@ -27,7 +27,7 @@ use Rattle.layout.specs.Places.{slotPlace}
 -- THE SLOTS OF A MASK, from the lowest on: those that are not left hold b
 pub record SlotsReopened (b c mask left : ℕ) (old new : List ℕ) : Type 0 where
   pub lowest : Left 32 mask left
-  pub slots : Assigned 0 b AnyByte (Of (λ s j. j ≡ slotPlace c s) (Taken mask left)) old new
+  pub slots : Assigned 0 b AnyByte (Of (λ s j. j ≡ slotPlace c s) (Removed mask left)) old new
 
 pub slots-none : (b c mask : ℕ) (l : List ℕ) → mask < 2 ^ 32 → SlotsReopened b c mask mask l l
 slots-none b c mask l h = record { lowest = left-all 32 mask h; slots = assign-left 0 b AnyByte _ mask l }
@@ -96,7 +96,7 @@ visited-all (false ∷ fs) (m ∷ ms) clear = omega (arith, count-append isVisit
 -- THE CALLS OF A MASK, from the lowest on: the visited slots of those that are not left hold b; total is their number
 pub record CallsReopened (b total calls left : ℕ) (visited old new : List ℕ) : Type 0 where
   pub lowest : Left 32 calls left
-  pub slots : Assigned 0 b AnyByte (Of (λ c. CallMask c (getD visited c 0)) (Taken calls left)) old new
+  pub slots : Assigned 0 b AnyByte (Of (λ c. CallMask c (getD visited c 0)) (Removed calls left)) old new
   pub number : total + visitedOf (flagsOf 32 left) visited ≡ visitedOf (flagsOf 32 calls) visited
 
 pub calls-none : (b calls : ℕ) (visited l : List ℕ) → calls < 2 ^ 32 → CallsReopened b 0 calls calls visited l l

@@ -14,7 +14,7 @@ use Rattle.tables.specs.Masks.{Has, flagsOf, allFlags}
 use Rattle.tables.specs.Sweep.{Swept}
 use Rattle.tables.specs.Laws.Facts.{eq-or-ne, lt-or-le}
 use Rattle.tables.specs.Laws.Flags.{flag-set, flag-has}
-use Rattle.tables.specs.Laws.Left.{Left, Taken, left-all, left-lowest, left-more, taken-lowest, taken-stays, taken-only, taken-all}
+use Rattle.tables.specs.Laws.Left.{Left, Removed, left-all, left-lowest, left-more, taken-lowest, taken-stays, taken-only, taken-all}
 use Rattle.tables.specs.Laws.Masks.{has-below, has-or-not}
 use Rattle.masks.specs.declared.columns.Columns.{Columns}
 use Rattle.masks.specs.Columns.{RowMasks, ColumnSets}
@@ -59,8 +59,8 @@ module _ (R : RuleBytes) (visited : List ℕ) (q : ℕ) {n m : ℕ} {sets : Colu
 pub record RulesRevived (S : ℕ → ℕ → ℕ → ℕ → Type 0) (rules left : ℕ) (old new : List ℕ) : Type 0 where
   pub lowest : Left 64 rules left
   pub len : length new ≡ length old
-  pub went : (q w : ℕ) → w < 64 → Taken rules left q → S q w (killerOf old q w) (killerOf new q w)
-  pub kept : (q w : ℕ) → w < 64 → (Taken rules left q → ⊥) → killerOf new q w ≡ killerOf old q w
+  pub went : (q w : ℕ) → w < 64 → Removed rules left q → S q w (killerOf old q w) (killerOf new q w)
+  pub kept : (q w : ℕ) → w < 64 → (Removed rules left q → ⊥) → killerOf new q w ≡ killerOf old q w
 
 module _ (S : ℕ → ℕ → ℕ → ℕ → Type 0) where
   pub rules-none : (rules : ℕ) (l : List ℕ) → rules < 2 ^ 64 → RulesRevived S rules rules l l
@@ -78,17 +78,17 @@ module _ (S : ℕ → ℕ → ℕ → ℕ → Type 0) where
       t : ℕ
       t = trailingZeros 64 left
 
-      still : Taken rules left t → ⊥
+      still : Removed rules left t → ⊥
       still z = z .out (left-lowest some (x .lowest) .here)
 
-      went : (q w : ℕ) → w < 64 → Taken rules (bitAnd left (left - 1)) q → S q w (killerOf a q w) (killerOf c q w)
+      went : (q w : ℕ) → w < 64 → Removed rules (bitAnd left (left - 1)) q → S q w (killerOf a q w) (killerOf c q w)
       went q w lw z =
           ⊎-elim
           (λ z. rw (swept-other b c s q w lw (λ e. still (rw e at z))) (x .went q w lw z))
           (λ (e : q ≡ t). rw (e, ← x .kept t w lw still) (s .inside w lw))
           (taken-only some (x .lowest) q z)
 
-      kept : (q w : ℕ) → w < 64 → (Taken rules (bitAnd left (left - 1)) q → ⊥) → killerOf c q w ≡ killerOf a q w
+      kept : (q w : ℕ) → w < 64 → (Removed rules (bitAnd left (left - 1)) q → ⊥) → killerOf c q w ≡ killerOf a q w
       kept q w lw out =
           swept-other b c s q w lw (λ e. out (rw e (taken-lowest some (x .lowest))))
           ∙ x .kept q w lw (λ z. out (taken-stays some (x .lowest) q z))

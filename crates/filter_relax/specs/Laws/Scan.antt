@@ -31,7 +31,7 @@ use Rattle.tables.specs.Laws.Masks.{
   and-both,
 }
 use Rattle.masks.specs.declared.columns.Columns.{Columns}
-use Rattle.masks.specs.Columns.{columnOf, In, noColumns, firstTwo, firstThree, PastEmpty, RowMasks, ColumnSets}
+use Rattle.masks.specs.Columns.{columnOf, InColumn, noColumns, firstTwo, firstThree, PastEmpty, RowMasks, ColumnSets}
 use Rattle.masks.specs.Slots.{SetDifference}
 use Rattle.masks.specs.Laws.Columns.{two, three, four, none-in}
 use Rattle.filter_propagate.specs.Rules.{RuleBytes}
@@ -79,14 +79,14 @@ killer-bits row sets killer ea eb ec ed =
 
 -- A ROW'S KILLER BIT SAYS whether its killer's slot is in the sets
 module _ {rows : List ℕ} {row : Columns} (sets : Columns) {q w : ℕ} (masks : RowMasks rows q w row) where
-  apart-in : (k : ℕ) → k < 4 → bitAnd (columnOf row k) (columnOf sets k) ≡ 0 → In sets k (slotOf rows q w k) → ⊥
+  apart-in : (k : ℕ) → k < 4 → bitAnd (columnOf row k) (columnOf sets k) ≡ 0 → InColumn sets k (slotOf rows q w k) → ⊥
   apart-in k l e i = omega (arith, apart-clear (slotOf rows q w k) (columnOf sets k) (rw (masks .each k l) at e))
 
-  met-in : (k : ℕ) → k < 4 → (bitAnd (columnOf row k) (columnOf sets k) ≡ 0 → ⊥) → In sets k (slotOf rows q w k)
+  met-in : (k : ℕ) → k < 4 → (bitAnd (columnOf row k) (columnOf sets k) ≡ 0 → ⊥) → InColumn sets k (slotOf rows q w k)
   met-in k l n =
       ⊎-elim
       (λ i. i)
-      (λ (o : In sets k (slotOf rows q w k) → ⊥).
+      (λ (o : InColumn sets k (slotOf rows q w k) → ⊥).
       absurd (n (rw (masks .each k l) (clear-apart (slotOf rows q w k) (columnOf sets k) (not-has (columnOf sets k) (slotOf rows q w k) o)))))
       (has-or-not (columnOf sets k) (slotOf rows q w k))
 
@@ -130,18 +130,18 @@ row-scanned {rows} killers {row} {sets} {found} {x} {q} {w} {hit} masks bits mor
     kept : hit ≡ 0 → (k : ℕ) → k < 4 → columnOf x k ≡ bitOr (columnOf found k) 0
     kept e k l = more .each k l ∙ rw (eq-eqb hit 0 e) refl
 
-    joins : (k : ℕ) → k < 4 → Met → In x k (slotOf rows q w k)
+    joins : (k : ℕ) → k < 4 → Met → InColumn x k (slotOf rows q w k)
     joins k l m =
         rw (added (λ e. killer-apart sets masks bits e m) k l)
         (or-right (columnOf found k) (2 ^ slotOf rows q w k) (slotOf rows q w k) (power-same (slotOf rows q w k)))
 
-    stays : (k s : ℕ) → k < 4 → In found k s → In x k s
+    stays : (k s : ℕ) → k < 4 → InColumn found k s → InColumn x k s
     stays k s l i = rw (more .each k l) (or-left (columnOf found k) (cond (eqb hit 0) 0 (columnOf row k)) s i)
 
-    only : (k s : ℕ) → k < 4 → In x k s → In found k s ⊎ (Met × (slotOf rows q w k ≡ s))
+    only : (k s : ℕ) → k < 4 → InColumn x k s → InColumn found k s ⊎ (Met × (slotOf rows q w k ≡ s))
     only k s l i =
         ⊎-elim
-        (λ (e : hit ≡ 0). let o : In found k s = simp (kept e k l, or-zero-r) at i in inl o)
+        (λ (e : hit ≡ 0). let o : InColumn found k s = simp (kept e k l, or-zero-r) at i in inl o)
         (λ n.
         ⊎-elim
         (λ o. inl o)
@@ -157,7 +157,7 @@ module _ (rows killers : List ℕ) (sets : Columns) (q : ℕ) where
   pub scanned-more : {w : ℕ} {x y : Columns} → Scanned rows killers sets q w x → RowScanned rows killers sets q w x y → Scanned rows killers sets q (w + 1) y
   scanned-more {w} {x} {y} a b = record { has = has; only = only }
     where
-      has : (k s : ℕ) → k < 4 → HitRow rows killers sets q (w + 1) k s → In y k s
+      has : (k s : ℕ) → k < 4 → HitRow rows killers sets q (w + 1) k s → InColumn y k s
       has k s l h =
           let inside = h .inside in
           let le : h .row ≤ w = omega arith in
@@ -166,7 +166,7 @@ module _ (rows killers : List ℕ) (sets : Columns) (q : ℕ) where
           (λ (lt : h .row < w). b .stays k s l (a .has k s l (record { row = h .row; inside = lt; hit = h .hit; holds = h .holds })))
           (eq-or-lt-of-le le)
 
-      only : (k s : ℕ) → k < 4 → In y k s → HitRow rows killers sets q (w + 1) k s
+      only : (k s : ℕ) → k < 4 → InColumn y k s → HitRow rows killers sets q (w + 1) k s
       only k s l i =
           ⊎-elim
           (λ o.
@@ -184,15 +184,15 @@ module _ {rows killers : List ℕ} {sets : Columns} {q m : ℕ} {x : Columns} wh
   pub scanned-two : (n : ℕ) → n < 3 → Scanned rows killers sets q m x → ScannedColumns rows killers sets q n m (firstTwo x)
   scanned-two n l v =
       record {
-        has = λ k s lk h. two (λ j. In x j s → In (firstTwo x) j s) (λ i. i) (λ i. i) k (omega arith) (v .has k s (omega arith) h);
-        only = λ k s lk i. v .only k s (omega arith) (two (λ j. In (firstTwo x) j s → In x j s) (λ i. i) (λ i. i) k (omega arith) i);
+        has = λ k s lk h. two (λ j. InColumn x j s → InColumn (firstTwo x) j s) (λ i. i) (λ i. i) k (omega arith) (v .has k s (omega arith) h);
+        only = λ k s lk i. v .only k s (omega arith) (two (λ j. InColumn (firstTwo x) j s → InColumn x j s) (λ i. i) (λ i. i) k (omega arith) i);
       }
 
   pub scanned-three : (n : ℕ) → n < 4 → Scanned rows killers sets q m x → ScannedColumns rows killers sets q n m (firstThree x)
   scanned-three n l v =
       record {
-        has = λ k s lk h. three (λ j. In x j s → In (firstThree x) j s) (λ i. i) (λ i. i) (λ i. i) k (omega arith) (v .has k s (omega arith) h);
-        only = λ k s lk i. v .only k s (omega arith) (three (λ j. In (firstThree x) j s → In x j s) (λ i. i) (λ i. i) (λ i. i) k (omega arith) i);
+        has = λ k s lk h. three (λ j. InColumn x j s → InColumn (firstThree x) j s) (λ i. i) (λ i. i) (λ i. i) k (omega arith) (v .has k s (omega arith) h);
+        only = λ k s lk i. v .only k s (omega arith) (three (λ j. InColumn (firstThree x) j s → InColumn x j s) (λ i. i) (λ i. i) (λ i. i) k (omega arith) i);
       }
 
   pub scanned-four : (n : ℕ) → n ≤ 4 → Scanned rows killers sets q m x → ScannedColumns rows killers sets q n m x
@@ -252,7 +252,7 @@ module _ (R : RuleBytes) (killers slots visited : List ℕ) (q n : ℕ) (few : n
   old = allFlags 32 visited
 
   -- a slot of a row with the rule as its cause is visited, or wanted
-  visited-or-wanted : (w k j : ℕ) → k < n → HeldAt (R .rows) slots (R .scope) q w k j → IsFlagged old j ⊎ In wanted k (slotOf (R .rows) q w k)
+  visited-or-wanted : (w k j : ℕ) → k < n → HeldAt (R .rows) slots (R .scope) q w k j → IsFlagged old j ⊎ InColumn wanted k (slotOf (R .rows) q w k)
   unfolding rowCell
   visited-or-wanted w k j l h =
       let c = callOf (R .scope) q k in

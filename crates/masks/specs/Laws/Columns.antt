@@ -7,7 +7,7 @@ use native.Mathlib.Omega.{arith}
 use lib.ListN.{getD}
 use Rattle.tables.specs.Laws.Masks.{bit-zero}
 use Rattle.masks.specs.declared.columns.Columns.{Columns}
-use Rattle.masks.specs.Columns.{columnOf, In, noColumns, firstTwo, firstThree, PastEmpty, wordAt, ColumnSets}
+use Rattle.masks.specs.Columns.{columnOf, InColumn, noColumns, firstTwo, firstThree, PastEmpty, wordAt, ColumnSets}
 
 -- WHAT HOLDS OF EACH of the four columns
 pub four : (P : ℕ → Type 0) → P 0 → P 1 → P 2 → P 3 → (k : ℕ) → k < 4 → P k
@@ -37,10 +37,10 @@ column-last x (suc (suc zero)) a b c = absurd (c refl)
 column-last x (suc (suc (suc k))) a b c = refl
 
 -- no column has a slot of none
-pub none-in : (k s : ℕ) → k < 4 → In noColumns k s → ⊥
-none-in k s l = four (λ j. In noColumns j s → ⊥) zero-in zero-in zero-in zero-in k l
+pub none-in : (k s : ℕ) → k < 4 → InColumn noColumns k s → ⊥
+none-in k s l = four (λ j. InColumn noColumns j s → ⊥) zero-in zero-in zero-in zero-in k l
   where
-    zero-in : In noColumns 0 s → ⊥
+    zero-in : InColumn noColumns 0 s → ⊥
     zero-in e = omega (arith, bit-zero s)
 
 -- A ROW'S WORD: its parts are the row's bytes

@@ -15,7 +15,7 @@ use Rattle.tables.specs.Assign.{Any, Flagged, Below}
 use Rattle.tables.specs.Masks.{bitOf, Has, flagsOf}
 use Rattle.tables.specs.Sweep.{One, Swept}
 use Rattle.tables.specs.Laws.Facts.{eq-or-ne, lt-or-le}
-use Rattle.tables.specs.Laws.Left.{Left, Taken, left-all, left-lowest, left-more, taken-lowest, taken-only, taken-all}
+use Rattle.tables.specs.Laws.Left.{Left, Removed, left-all, left-lowest, left-more, taken-lowest, taken-only, taken-all}
 use Rattle.tables.specs.Laws.Flags.{flags-length, flag-set, flag-clear, flags-set}
 use Rattle.tables.specs.Laws.Masks.{
   bit-below,
@@ -191,7 +191,7 @@ dropped {p} {a} {b} x = record { size = x .len; kept = kept; only = only }
 -- THE RULES ON THE CALLS OF A MASK, from its lowest call on: rules has those on the calls that are not left
 pub record Gathered (on : List ℕ) (calls rules left : ℕ) : Type 0 where
   pub lowest-first : Left 32 calls left
-  pub has : (c q : ℕ) → Taken calls left c → Has (getD on c 0) q → Has rules q
+  pub has : (c q : ℕ) → Removed calls left c → Has (getD on c 0) q → Has rules q
   pub only : (q : ℕ) → Has rules q → OnAny on calls q
 
 -- before the first call all are left
@@ -207,7 +207,7 @@ gathered-more {on} {calls} {rules} {left} some x = record { lowest-first = left-
     t : ℕ
     t = trailingZeros 32 left
 
-    has : (c q : ℕ) → Taken calls (bitAnd left (left - 1)) c → Has (getD on c 0) q → Has (bitOr rules (getD on t 0)) q
+    has : (c q : ℕ) → Removed calls (bitAnd left (left - 1)) c → Has (getD on c 0) q → Has (bitOr rules (getD on t 0)) q
     has c q k h =
         ⊎-elim
         (λ before. or-left rules (getD on t 0) q (x .has c q before h))

@@ -18,7 +18,7 @@ pub record Left (k mask left : ℕ) : Type 0 where
   pub part : (s : ℕ) → Has left s → Has mask s
 
 -- number s of the mask is not left
-pub record Taken (mask left s : ℕ) : Type 0 where
+pub record Removed (mask left s : ℕ) : Type 0 where
   pub had : Has mask s
   pub out : Has left s → ⊥
 
@@ -31,10 +31,10 @@ module _ {k mask left : ℕ} (some : left ≡ 0 → ⊥) (x : Left k mask left) 
   left-lowest = lowest k left (x .small) (omega arith)
 
   -- the lowest is taken, and all else is as before
-  pub taken-lowest : Taken mask (bitAnd left (left - 1)) (trailingZeros k left)
+  pub taken-lowest : Removed mask (bitAnd left (left - 1)) (trailingZeros k left)
   taken-lowest = let l = left-lowest in record { had = x .part (trailingZeros k left) (l .here); out = λ h. omega (arith, l .gone) }
 
-  pub taken-stays : (s : ℕ) → Taken mask left s → Taken mask (bitAnd left (left - 1)) s
+  pub taken-stays : (s : ℕ) → Removed mask left s → Removed mask (bitAnd left (left - 1)) s
   taken-stays s t =
       let l = left-lowest in
       record {
@@ -46,7 +46,7 @@ module _ {k mask left : ℕ} (some : left ≡ 0 → ⊥) (x : Left k mask left) 
             (eq-or-ne s (trailingZeros k left));
       }
 
-  pub taken-only : (s : ℕ) → Taken mask (bitAnd left (left - 1)) s → Taken mask left s ⊎ (s ≡ trailingZeros k left)
+  pub taken-only : (s : ℕ) → Removed mask (bitAnd left (left - 1)) s → Removed mask left s ⊎ (s ≡ trailingZeros k left)
   taken-only s t =
       let l = left-lowest in
       ⊎-elim (λ (e : s ≡ trailingZeros k left). inr e) (λ ne. inl (record { had = t .had; out = λ h. t .out (l .others s ne ∙ h) })) (eq-or-ne s (trailingZeros k left))
@@ -64,7 +64,7 @@ module _ {k mask left : ℕ} (some : left ≡ 0 → ⊥) (x : Left k mask left) 
       }
 
 -- after the last round all are taken
-pub taken-all : {mask left s : ℕ} → left ≡ 0 → Has mask s → Taken mask left s
+pub taken-all : {mask left s : ℕ} → left ≡ 0 → Has mask s → Removed mask left s
 taken-all {left = left} {s = s} z h = record { had = h; out = λ g. has-some left s g z }
 
 -- in the set of one of the numbers with P
@@ -73,11 +73,11 @@ Of Q P j = (s : ℕ) × P s × Q s j
 
 -- ONE VALUE WRITTEN at the entries of one set in each round
 module _ {A : Type 0} (d v : A) (Free : A → Type 0) (Q : ℕ → ℕ → Type 0) where
-  pub assign-left : (mask : ℕ) (l : List A) → Assigned d v Free (Of Q (Taken mask mask)) l l
+  pub assign-left : (mask : ℕ) (l : List A) → Assigned d v Free (Of Q (Removed mask mask)) l l
   assign-left mask l = assign-keep d v Free _ l (λ j q f. absurd (q .1 .out (q .1 .had)))
 
-  pub assign-lowest : {k mask left : ℕ} {a b c : List A} → (left ≡ 0 → ⊥) → Left k mask left → Assigned d v Free (Of Q (Taken mask left)) a b
-      → Assigned d v Free (Q (trailingZeros k left)) b c → Assigned d v Free (Of Q (Taken mask (bitAnd left (left - 1)))) a c
+  pub assign-lowest : {k mask left : ℕ} {a b c : List A} → (left ≡ 0 → ⊥) → Left k mask left → Assigned d v Free (Of Q (Removed mask left)) a b
+      → Assigned d v Free (Q (trailingZeros k left)) b c → Assigned d v Free (Of Q (Removed mask (bitAnd left (left - 1)))) a c
   assign-lowest {k} {mask} {left} {a} {b} {c} some x p q =
       assign-same d v Free _ _
       (λ j z.
@@ -92,5 +92,5 @@ module _ {A : Type 0} (d v : A) (Free : A → Type 0) (Q : ℕ → ℕ → Type 
       z)
       (assign-both d v Free _ _ a b c p q)
 
-  pub assign-taken : {mask left : ℕ} {a b : List A} → left ≡ 0 → Assigned d v Free (Of Q (Taken mask left)) a b → Assigned d v Free (Of Q (Has mask)) a b
+  pub assign-taken : {mask left : ℕ} {a b : List A} → left ≡ 0 → Assigned d v Free (Of Q (Removed mask left)) a b → Assigned d v Free (Of Q (Has mask)) a b
   assign-taken z p = assign-same d v Free _ _ (λ j y. (y .0, taken-all z (y .1), y .2)) (λ j y. (y .0, y .1 .had, y .2)) p
