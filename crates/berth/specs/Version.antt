@@ -4,7 +4,6 @@ use lib.ListN.{length}
 use Rattle.layout.specs.declared.value.Heads.{Heads}
 use Rattle.layout.specs.declared.value.RuleData.{RuleData}
 use Rattle.layout.specs.declared.value.Draft.{Draft}
-use Rattle.layout.specs.declared.value.Value.{Value}
 use Rattle.layout.specs.Value.{freshValue}
 
 -- it rises with any change of a struct, of a function or of what one means

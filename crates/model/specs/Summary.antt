@@ -37,16 +37,17 @@ figuresOf slots c count rules =
     let opened = countBelow 32 (open? slots c) in
     record { «open» = opened; struck = count - opened; rules = rules }
 
--- how many of the first n columns of the heads, four to a rule, are on call c: a rule's calls differ, so that it has one of them at most
-abbrev pub columnOn? : Heads → ℕ → ℕ → Bool
-columnOn? h c i = ltb (i % 4) (getD (h .arity) (i / 4) 0) && eqb (callOf (h .scope) (i / 4) (i % 4)) c
+-- column k of rule p, whose arity is n, is on call c
+abbrev pub columnOn? : List ℕ → ℕ → ℕ → ℕ → ℕ → Bool
+columnOn? scope p n c k = ltb k n && eqb (callOf scope p k) c
 
-abbrev pub columnsOn : Heads → ℕ → ℕ → ℕ
-columnsOn h n c = countBelow n (columnOn? h c)
+-- how many of the first n columns of the heads, four to a rule, are on call c: a rule's calls differ, so that it has one of them at most
+abbrev pub columnsOn : List ℕ → List ℕ → ℕ → ℕ → ℕ
+columnsOn arity scope n c = countBelow n (λ i. columnOn? scope (i / 4) (getD arity (i / 4) 0) c (i % 4))
 
 -- zeros where the call has no slots. On altered heads all 256 columns may be on one call, which a byte does not hold
 abbrev pub countedRecord : Heads → List ℕ → ℕ → Summary
-countedRecord h slots c = cond (eqb (getD (h .counts) c 0) 0) noSummary (figuresOf slots c (getD (h .counts) c 0) (columnsOn h 256 c % 256))
+countedRecord h slots c = cond (eqb (getD (h .counts) c 0) 0) noSummary (figuresOf slots c (getD (h .counts) c 0) (columnsOn (h .arity) (h .scope) 256 c % 256))
 
 pub record Counted (h : Heads) (slots : List ℕ) (table : List Summary) : Type 0 where
   pub size : length table ≡ recordsLength

@@ -14,10 +14,9 @@ use Rattle.model.specs.Laws.Theory as theory
 use Rattle.model.specs.Laws.Lists.{demand-3, demand-3-two, runs-represent}
 use Rattle.model.specs.Laws.Summary.{absent-zero, total-of-records, total-of-bytes}
 use Rattle.layout.specs.Places.{causeOf, killerOf}
-use Rattle.layout.specs.declared.summary.Summary.{Summary}
 use Rattle.layout.specs.Summary.{noSummary}
 use Rattle.layout.specs.Sizes.{recordsLength}
-use Rattle.layout.specs.Memory.{State, Whole}
+use Rattle.layout.specs.Memory.{Whole}
 use Rattle.board.specs.Lists.{After, boardAfter}
 
 -- FOR EVERY LIST OF COMMANDS

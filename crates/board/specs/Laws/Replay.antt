@@ -17,7 +17,7 @@ use Rattle.model.specs.declared.command.Decoded.{Decoded}
 use Rattle.model.specs.Commands.{isKind, bodySize, commandAt, countsAt, without, readAt}
 use Rattle.model.specs.declared.answer.Answer.the-variants as answer
 use Rattle.model.specs.Tests.{upFrom}
-use Rattle.model.specs.Ledger.{Member, fresh, run, lentConditions, lengths, member}
+use Rattle.model.specs.Ledger.{Member, fresh, run, lengths, member}
 use Rattle.model.specs.Promise.{StatePromise, Promise}
 use Rattle.model.specs.Summary.{Counted, countedRecord}
 use Rattle.model.specs.Lists.{Runs, done, then, Entered}
@@ -30,14 +30,14 @@ use Rattle.layout.specs.declared.value.Value.{Value}
 use Rattle.layout.specs.declared.value.Heads.{Heads}
 use Rattle.layout.specs.declared.summary.Summary.{Summary}
 use Rattle.layout.specs.Summary.{noSummary, noRecords, noTable}
-use Rattle.layout.specs.Memory.{State, Whole, stateOf, wholeOf, lentOf, lentWith, freshState, freshWhole}
+use Rattle.layout.specs.Memory.{State, Whole, stateOf, wholeOf, lentOf, lentWith}
 use Rattle.layout.specs.Value.{freshValue}
 use Rattle.layout.specs.Sizes.{CommandLent, badLent?, badTable?, killersLength, rowsLength, slotsLength, recordsLength}
 use Rattle.layout.specs.Laws.Memory.{filled-is}
 use Rattle.board.specs.declared.file.Position.{Position}
 use Rattle.board.specs.Lists.{After}
 use Rattle.board.specs.Store.{Stores}
-use Rattle.board.specs.Replay.{partOf, commandsBy, commandsFrom, fileCommands, endBy, endFrom, fileEnd, ReplayPromise, FreshPromise, FreshBuffers, IsFresh, CommandTaken, FileEnded, TakenBy, Taken, InFile, TakenTo, FileTaken, FileCounted}
+use Rattle.board.specs.Replay.{partOf, commandsBy, commandsFrom, fileCommands, endBy, endFrom, fileEnd, ReplayPromise, FreshPromise, FreshBuffers, IsFresh, CommandTaken, FileEnded, TakenBy, Taken, TakenTo, FileTaken, FileCounted}
 use Rattle.board.specs.Laws.Lists.{entered-by}
 use Rattle.board.specs.Laws.Store.{stores-none, stores-all}
 

@@ -1,18 +1,17 @@
 -- THE RECORDS THAT A COMMAND LEAVES keep the entry's promise of every table: none where it is refused, and where it is accepted those that were counted. Assumes nothing.
 use mathlib.Core.Path.{_≡_, refl, sym, ap, subst, _∙_}
-use mathlib.Core.Bool.{Bool, true, false}
+use mathlib.Core.Bool.{true, false}
 use mathlib.Core.List.{List, [], _∷_, _++_, append-nil}
 use mathlib.Core.Logic.{_≢_}
 use Prim.Native.Nat.{ℕ}
 use native.Mathlib.Omega.{arith}
 use lib.ListN.{length, take, drop}
 use borrow.Author.Tests.{ne-eqb}
-use Rattle.model.specs.declared.answer.Report.{Report}
 use Rattle.model.specs.declared.answer.Answer.{Answer}
 use Rattle.model.specs.declared.answer.Answer.the-variants as answer
 use Rattle.model.specs.declared.answer.Outcome.{Outcome}
 use Rattle.model.specs.Ledger.{lengths}
-use Rattle.model.specs.Promise.{StatePromise, Promise, refusedWith}
+use Rattle.model.specs.Promise.{StatePromise, Promise}
 use Rattle.model.specs.Summary.{Counted}
 use Rattle.model.specs.Laws.Entry.{refused-lengths, refused-table, refused-whole, promise-whole}
 use Rattle.model.specs.Laws.Shapes.{lent-sizes}
@@ -23,7 +22,7 @@ use Rattle.layout.specs.Summary.{noTable, replaced}
 use Rattle.layout.specs.Memory.{State, stateOf, wholeOf, lentOf, lentWith}
 use Rattle.layout.specs.Sizes.{badLent?, badTable?, recordsLength}
 use Rattle.board.specs.declared.run.Done.{Done}
-use Rattle.board.specs.Store.{Stores, noneToStore, countFor, WithRecords}
+use Rattle.board.specs.Store.{Stores, countFor, WithRecords}
 
 -- no record is to be stored: what is promised of the table as it was is promised
 pub stores-none : {Promised : List Summary → List Summary → Type 0} {n : ℕ} {records : List Summary} → ((old : List Summary) → length old ≡ n → Promised old old)

@@ -2,7 +2,7 @@
 -- whose open slots are the viable ones (Laws.Filter, found-viable), and whose rules have one column at most on a call. A table that is current is the only one, and its
 -- open figures add up to O. Assumes nothing.
 use mathlib.Core.Path.{_≡_, refl, sym, ap, ap₂, _∙_}
-use mathlib.Core.Bool.{Bool, not, _&&_, cond}
+use mathlib.Core.Bool.{Bool, not, cond}
 use mathlib.Core.List.{List, [], _∷_}
 use mathlib.Core.Logic.{_⊎_, inl, inr, ⊎-elim}
 use mathlib.Core.Option.{Option, none, some}
@@ -12,7 +12,6 @@ use lib.ListN.{length, getD, length-replicate, getD-replicate, List·getD-eq-def
 use lib.Seq.{ext-getD}
 use lib.Dec.{T, eqb, ltb, eqb→eq, ltb→lt, lt→ltb}
 use borrow.Author.Tests.{le-leb, lt-leb}
-use Rattle.layout.specs.declared.value.Heads.{Heads}
 use Rattle.layout.specs.declared.summary.Summary.{Summary}
 use Rattle.model.specs.Board.{Rule, Board, callAt, Shape}
 use Rattle.model.specs.Tests.{some?, countBelow}
@@ -20,7 +19,7 @@ use Rattle.model.specs.Filter.{in?, openOf}
 use Rattle.model.specs.Ledger.{Ledger, LedgerShape, bare}
 use Rattle.model.specs.Report.{slotCount, open?, closed?}
 use Rattle.model.specs.Representation.{ruleOr, ruleAt, Represents}
-use Rattle.model.specs.Summary.{ruleOn?, recordOf, Current, figuresOf, columnsOn, countedRecord, Counted, openTotal, openSum}
+use Rattle.model.specs.Summary.{ruleOn?, recordOf, Current, figuresOf, columnOn?, columnsOn, countedRecord, Counted, openTotal, openSum}
 use Rattle.model.specs.Laws.Tests.{
   and→,
   →and,
@@ -84,10 +83,6 @@ absent-zero B shape c le lc =
     off : (s : ℕ) → s < getD (B .counts) c 0 → ⊥
     off s h = omega (arith, List·getD-eq-default (B .counts) 0 le)
 
--- column k of rule p, as the heads have it, is on call c
-abbrev headColumnOn? : Heads → ℕ → ℕ → ℕ → Bool
-headColumnOn? h c p k = ltb k (getD (h .arity) p 0) && eqb (callOf (h .scope) p k) c
-
 -- a count by fours, where each four are one number's
 count-fours : (n : ℕ) (f : ℕ → ℕ → Bool) (g : ℕ → Bool) → ((p : ℕ) → p < n → countBelow 4 (f p) ≡ cond (g p) 1 0)
     → countBelow (4 * n) (λ i. f (i / 4) (i % 4)) ≡ countBelow n g
@@ -100,6 +95,10 @@ count-fours (suc n) f g is =
 
 -- THE BYTES' FIGURES ARE THE BOARD'S
 module _ (L : Ledger) (s : State) (shape : LedgerShape L) (rep : Represents L s) where
+  -- column k of rule p, as the heads have it, is on call c
+  abbrev headOn? : ℕ → ℕ → ℕ → Bool
+  headOn? c p k = columnOn? (s .value .heads .scope) p (getD (s .value .heads .arity) p 0) c k
+
   call-held : (p k : ℕ) → p < 64 → k < length (ruleAt (L .board) p .scope) → callOf (s .value .heads .scope) p k ≡ callAt (ruleAt (L .board) p) k
   call-held p k lp lk =
       let there = column-in (L .board) (shape .board) p k lk in
@@ -108,7 +107,7 @@ module _ (L : Ledger) (s : State) (shape : LedgerShape L) (rep : Represents L s)
       let byte = rep .stored .headed .scope p k lp (there .0) in
       omega arith
 
-  column-held : (c p k : ℕ) → p < 64 → T (headColumnOn? (s .value .heads) c p k) → (k < length (ruleAt (L .board) p .scope)) × (callAt (ruleAt (L .board) p) k ≡ c)
+  column-held : (c p k : ℕ) → p < 64 → T (headOn? c p k) → (k < length (ruleAt (L .board) p .scope)) × (callAt (ruleAt (L .board) p) k ≡ c)
   column-held c p k lp t =
       let both = and→ (ltb k (getD (s .value .heads .arity) p 0)) (eqb (callOf (s .value .heads .scope) p k) c) t in
       let arity = rep .stored .headed .arity p lp in
@@ -116,17 +115,17 @@ module _ (L : Ledger) (s : State) (shape : LedgerShape L) (rep : Represents L s)
       (lk, sym (call-held p k lp lk) ∙ eqb→eq (callOf (s .value .heads .scope) p k) c (both .1))
 
   -- a rule's calls differ, so that it has one column on a call, or none
-  rule-held : (c p : ℕ) → p < 64 → countBelow 4 (headColumnOn? (s .value .heads) c p) ≡ cond (ruleOn? (L .board) c p) 1 0
+  rule-held : (c p : ℕ) → p < 64 → countBelow 4 (headOn? c p) ≡ cond (ruleOn? (L .board) c p) 1 0
   rule-held c p lp =
-      count-once 4 (headColumnOn? (s .value .heads) c p)
+      count-once 4 (headOn? c p)
       (λ i j l h t u.
       let first = column-held c p i lp t in
       let other = column-held c p j lp u in
       calls-differ (L .board) (shape .board) p i j l (other .0) (first .1 ∙ sym (other .1)))
       ∙ ap (λ (b : Bool). cond b 1 0)
-      (same-test (some? 4 (headColumnOn? (s .value .heads) c p)) (ruleOn? (L .board) c p)
+      (same-test (some? 4 (headOn? c p)) (ruleOn? (L .board) c p)
       (λ t.
-      let found = some→ 4 (headColumnOn? (s .value .heads) c p) t in
+      let found = some→ 4 (headOn? c p) t in
       let held = column-held c p (found .0) lp (found .2) in
       →has 255 (ruleAt (L .board) p .scope) c (found .0) (held .0) (held .1))
       (λ t.
@@ -134,15 +133,15 @@ module _ (L : Ledger) (s : State) (shape : LedgerShape L) (rep : Represents L s)
       let k = found .0 in
       let lk = found .1 in
       let arity = rep .stored .headed .arity p lp in
-      →some 4 (headColumnOn? (s .value .heads) c p) k (column-in (L .board) (shape .board) p k lk .0)
+      →some 4 (headOn? c p) k (column-in (L .board) (shape .board) p k lk .0)
       (→and (ltb k (getD (s .value .heads .arity) p 0)) (eqb (callOf (s .value .heads .scope) p k) c)
       (lt→ltb k (getD (s .value .heads .arity) p 0) (omega arith))
       (→eqb (callOf (s .value .heads .scope) p k) c (call-held p k lp lk ∙ found .2)))))
 
-  rules-held : (c : ℕ) → columnsOn (s .value .heads) 256 c % 256 ≡ countBelow 64 (ruleOn? (L .board) c)
+  rules-held : (c : ℕ) → columnsOn (s .value .heads .arity) (s .value .heads .scope) 256 c % 256 ≡ countBelow 64 (ruleOn? (L .board) c)
   rules-held c =
-      byte (columnsOn (s .value .heads) 256 c) (countBelow 64 (ruleOn? (L .board) c))
-      (count-fours 64 (headColumnOn? (s .value .heads) c) (ruleOn? (L .board) c) (rule-held c))
+      byte (columnsOn (s .value .heads .arity) (s .value .heads .scope) 256 c) (countBelow 64 (ruleOn? (L .board) c))
+      (count-fours 64 (headOn? c) (ruleOn? (L .board) c) (rule-held c))
       (count-bound 64 (ruleOn? (L .board) c))
     where
       byte : (m n : ℕ) → m ≡ n → n ≤ 64 → m % 256 ≡ n
@@ -169,12 +168,12 @@ module _ (L : Ledger) (s : State) (shape : LedgerShape L) (rep : Represents L s)
 
   counted-is : (c : ℕ) → c < recordsLength → countedRecord (s .value .heads) (s .slots) c ≡ recordOf (L .board) c
   counted-is c lc =
-      ap (λ (b : Bool). cond b noSummary (figuresOf (s .slots) c (getD (s .value .heads .counts) c 0) (columnsOn (s .value .heads) 256 c % 256)))
+      ap (λ (b : Bool). cond b noSummary (figuresOf (s .slots) c (getD (s .value .heads .counts) c 0) (columnsOn (s .value .heads .arity) (s .value .heads .scope) 256 c % 256)))
       (no-call (L .board) (shape .board) (s .value .heads) (rep .stored .headed) c)
       ∙ ⊎-elim
       (λ lt.
       rw (lt-leb (length (L .board .counts)) c lt)
-      (figures-same (countBelow 32 (open? (s .slots) c)) (getD (s .value .heads .counts) c 0 - countBelow 32 (open? (s .slots) c)) (columnsOn (s .value .heads) 256 c % 256)
+      (figures-same (countBelow 32 (open? (s .slots) c)) (getD (s .value .heads .counts) c 0 - countBelow 32 (open? (s .slots) c)) (columnsOn (s .value .heads .arity) (s .value .heads .scope) 256 c % 256)
       (countBelow 32 (in? (openOf (L .board)) c)) (countBelow 32 (closed? (L .board) (openOf (L .board)) c)) (countBelow 64 (ruleOn? (L .board) c))
       (opened-held c lc) (struck-held c lc) (rules-held c)))
       (λ le. rw (le-leb (length (L .board .counts)) c le) (sym (absent-zero (L .board) (shape .board) c le lc)))

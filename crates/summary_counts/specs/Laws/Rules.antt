@@ -14,7 +14,8 @@ use Rattle.tables.specs.Laws.Facts.{eq-or-ne}
 use Rattle.layout.specs.Places.{callOf}
 use Rattle.model.specs.Tests.{countBelow}
 use Rattle.model.specs.Laws.Tests.{count-bound, count-row}
-use Rattle.summary_counts.specs.Rules.{onCall?, columnAt?, AtMost, ColumnAdded, ColumnsAdded, ColumnsTo}
+use Rattle.model.specs.Summary.{columnOn?, columnsOn}
+use Rattle.summary_counts.specs.Rules.{AtMost, ColumnAdded, ColumnsAdded, ColumnsTo}
 
 -- A COLUMN past the arity adds nothing; one of the rule's adds 1 to its call
 pub added-none : {scope : List ℕ} {q n k : ℕ} (on : List ℕ) → n ≤ k → ColumnAdded scope q n k on on
@@ -42,7 +43,7 @@ added-one scope q n k on size lt =
 -- so that no number grows by more than 1
 pub most-more : {scope : List ℕ} {q n k m : ℕ} {old new : List ℕ} → AtMost m old → ColumnAdded scope q n k old new → AtMost (m + 1) new
 most-more {scope} {q} {n} {k} {m} {old} {new} most added =
-    record { size = added .size ∙ most .size; each = λ c l. go (onCall? scope q n c k) (getD old c 0) (getD new c 0) (added .each c l) (most .each c l) }
+    record { size = added .size ∙ most .size; each = λ c l. go (columnOn? scope q n c k) (getD old c 0) (getD new c 0) (added .each c l) (most .each c l) }
   where
     go : (b : Bool) (x y : ℕ) → y ≡ x + cond b 1 0 → x ≤ m → y ≤ m + 1
     go true x y e h = omega arith
@@ -63,7 +64,7 @@ added-four {scope} {q} {n} {a} {b} {d} {e} {f} w x y z =
       size = z .size ∙ y .size ∙ x .size ∙ w .size;
       each = λ c l.
           sum (getD a c 0) (getD b c 0) (getD d c 0) (getD e c 0) (getD f c 0)
-          (cond (onCall? scope q n c 0) 1 0) (cond (onCall? scope q n c 1) 1 0) (cond (onCall? scope q n c 2) 1 0) (cond (onCall? scope q n c 3) 1 0)
+          (cond (columnOn? scope q n c 0) 1 0) (cond (columnOn? scope q n c 1) 1 0) (cond (columnOn? scope q n c 2) 1 0) (cond (columnOn? scope q n c 3) 1 0)
           (w .each c l) (x .each c l) (y .each c l) (z .each c l);
     }
   where
@@ -85,9 +86,9 @@ on-calls-more {arity} {scope} {q} {n} {old} {new} so-far is added =
       size = added .size ∙ so-far .size;
       each = λ c l.
           added .each c l
-          ∙ ap₂ (λ (a b : ℕ). a + b) (so-far .each c l) (ap (λ (m : ℕ). countBelow 4 (onCall? scope q m c)) is)
-          ∙ sym (count-row 4 q (λ p k. onCall? scope p (getD arity p 0) c k) (omega arith))
-          ∙ sym (ap (λ (m : ℕ). countBelow m (columnAt? arity scope c)) size);
+          ∙ ap₂ (λ (a b : ℕ). a + b) (so-far .each c l) (ap (λ (m : ℕ). countBelow 4 (columnOn? scope q m c)) is)
+          ∙ sym (count-row 4 q (λ p k. columnOn? scope p (getD arity p 0) c k) (omega arith))
+          ∙ sym (ap (λ (m : ℕ). columnsOn arity scope m c) size);
     }
 
 pub on-calls-at : {arity scope : List ℕ} {q m : ℕ} {on : List ℕ} → ColumnsTo arity scope q on → q ≤ m → m ≤ q → ColumnsTo arity scope m on
@@ -98,7 +99,7 @@ pub on-calls-most : {arity scope : List ℕ} {q : ℕ} {on : List ℕ} → Colum
 on-calls-most {arity} {scope} {q} {on} x =
     record {
       size = x .size;
-      each = λ c l. below (getD on c 0) (countBelow (4 * q) (columnAt? arity scope c)) (x .each c l) (count-bound (4 * q) (columnAt? arity scope c));
+      each = λ c l. below (getD on c 0) (columnsOn arity scope (4 * q) c) (x .each c l) (count-bound (4 * q) _);
     }
   where
     below : (a b : ℕ) → a ≡ b → b ≤ 4 * q → a ≤ 4 * q
