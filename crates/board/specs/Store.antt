@@ -6,7 +6,7 @@ use lib.ListN.{length}
 use Rattle.model.specs.declared.answer.Answer.{Answer}
 use Rattle.model.specs.declared.answer.Answer.the-variants as answer
 use Rattle.model.specs.declared.answer.Outcome.{Outcome}
-use Rattle.model.specs.Summary.{Counted}
+use Rattle.summary_counts.specs.Counted.{Counted}
 use Rattle.layout.specs.declared.summary.Summary.{Summary}
 use Rattle.layout.specs.Summary.{noTable, replaced}
 use Rattle.layout.specs.Sizes.{recordsLength}

@@ -5,7 +5,7 @@ use mathlib.Core.List.{List}
 use Prim.Native.Nat.{ℕ, _+_, _*_, _<_, _≤_}
 use lib.ListN.{length, getD}
 use Rattle.model.specs.Tests.{countBelow}
-use Rattle.model.specs.Summary.{columnOn?, columnsOn}
+use Rattle.summary_counts.specs.Counted.{columnOn?, columnsOn}
 
 -- 32 numbers, none of them above m
 pub record AtMost (m : ℕ) (on : List ℕ) : Type 0 where

@@ -8,7 +8,7 @@ ghost use lib.ListN.{length};
 ghost use Rattle.layout.specs.Sizes.{slotsLength};
 ghost use Rattle.model.specs.Tests.{countBelow};
 ghost use Rattle.model.specs.Report.{slotCount, open?};
-ghost use Rattle.model.specs.Summary.{figuresOf};
+ghost use Rattle.summary_counts.specs.Counted.{figuresOf};
 
 // 1 for an open slot's byte.
 pub fn is_open(b: u8) -> u8

@@ -9,7 +9,7 @@ ghost use mathlib.Core.Path.{_≡_};
 ghost use lib.Dec.{eqb};
 ghost use Rattle.layout.specs.Sizes.{slotsLength};
 ghost use Rattle.layout.specs.Summary.{noSummary};
-ghost use Rattle.model.specs.Summary.{figuresOf, Counted};
+ghost use Rattle.summary_counts.specs.Counted.{figuresOf, Counted};
 
 // The record of call c, which has so many slots and so many rules on it; zeros where it has no slots.
 fn record_of(slots: &[u8], c: usize, count: u8, rules: u8) -> Summary

@@ -19,13 +19,13 @@ use Rattle.model.specs.declared.answer.Answer.the-variants as answer
 use Rattle.model.specs.Tests.{upFrom}
 use Rattle.model.specs.Ledger.{Member, fresh, run, lengths, member}
 use Rattle.model.specs.Promise.{StatePromise, Promise}
-use Rattle.model.specs.Summary.{Counted, countedRecord}
 use Rattle.model.specs.Lists.{Runs, done, then, Entered}
 use Rattle.model.specs.Sheet.{inputMost}
 use Rattle.model.specs.Numbers as refused
-use Rattle.model.specs.Laws.Entry.{promise-whole}
 use Rattle.model.specs.Laws.Lists.{is-lengths, runs-represent}
-use Rattle.model.specs.Laws.Summary.{counted-current, current-one}
+use Rattle.model.specs.Laws.Summary.{current-one}
+use Rattle.summary_counts.specs.Counted.{Counted, countedRecord}
+use Rattle.summary_counts.specs.Laws.Counted.{counted-current}
 use Rattle.layout.specs.declared.value.Value.{Value}
 use Rattle.layout.specs.declared.value.Heads.{Heads}
 use Rattle.layout.specs.declared.summary.Summary.{Summary}
@@ -39,7 +39,7 @@ use Rattle.board.specs.Lists.{After}
 use Rattle.board.specs.Store.{Stores}
 use Rattle.board.specs.Replay.{partOf, commandsBy, commandsFrom, fileCommands, endBy, endFrom, fileEnd, ReplayPromise, FreshPromise, FreshBuffers, IsFresh, CommandTaken, FileEnded, TakenBy, Taken, TakenTo, FileTaken, FileCounted}
 use Rattle.board.specs.Laws.Lists.{entered-by}
-use Rattle.board.specs.Laws.Store.{stores-none, stores-all}
+use Rattle.board.specs.Laws.Store.{promise-whole, stores-none, stores-all}
 
 -- AT THE END there is no command, and nothing is refused
 commands-end : (n : ℕ) (s : List ℕ) (at : ℕ) → length s ≤ at → commandsFrom n s at ≡ []

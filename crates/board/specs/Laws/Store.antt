@@ -10,19 +10,29 @@ use borrow.Author.Tests.{ne-eqb}
 use Rattle.model.specs.declared.answer.Answer.{Answer}
 use Rattle.model.specs.declared.answer.Answer.the-variants as answer
 use Rattle.model.specs.declared.answer.Outcome.{Outcome}
-use Rattle.model.specs.Ledger.{lengths}
-use Rattle.model.specs.Promise.{StatePromise, Promise}
-use Rattle.model.specs.Summary.{Counted}
-use Rattle.model.specs.Laws.Entry.{refused-lengths, refused-table, refused-whole, promise-whole}
+use Rattle.model.specs.Ledger.{Ledger, LedgerShape, lengths}
+use Rattle.model.specs.Promise.{numberOf, StatePromise, Promise}
+use Rattle.model.specs.Representation.{Represents}
+use Rattle.model.specs.Summary.{Current}
+use Rattle.model.specs.Laws.Entry.{refused-lengths, refused-table, refused-whole}
 use Rattle.model.specs.Laws.Shapes.{lent-sizes}
-use Rattle.model.specs.Laws.Summary.{counted-current}
 use Rattle.model.specs.Numbers as refused
 use Rattle.layout.specs.declared.summary.Summary.{Summary}
 use Rattle.layout.specs.Summary.{noTable, replaced}
 use Rattle.layout.specs.Memory.{State, stateOf, wholeOf, lentOf, lentWith}
-use Rattle.layout.specs.Sizes.{badLent?, badTable?, recordsLength}
+use Rattle.layout.specs.Sizes.{CommandLent, badLent?, badTable?, recordsLength}
+use Rattle.summary_counts.specs.Counted.{Counted}
+use Rattle.summary_counts.specs.Laws.Counted.{counted-current}
 use Rattle.board.specs.declared.run.Done.{Done}
 use Rattle.board.specs.Store.{Stores, countFor, WithRecords}
+
+-- THE ENTRY'S PROMISE with the right lengths lent: the table is kept by a refusal, and is current on what an accepted command leaves
+pub promise-whole : (s s′ : State) (bytes : List ℕ) (given : Answer) (old new : List Summary) → lentWith (wholeOf s old) ≡ lengths → StatePromise lengths s bytes given s′
+    → ((n : ℕ) → given ≡ answer.Refused n → new ≡ old)
+    → (numberOf given ≡ 0 → (L : Ledger) → LedgerShape L → Represents L s′ → Current (L .board) new)
+    → Promise (wholeOf s old) bytes given (wholeOf s′ new)
+promise-whole s s′ bytes given old new lent promise kept current =
+    record { state = subst (λ (l : CommandLent). StatePromise l s bytes given s′) (sym lent) promise; table-kept = kept; current = current }
 
 -- no record is to be stored: what is promised of the table as it was is promised
 pub stores-none : {Promised : List Summary → List Summary → Type 0} {n : ℕ} {records : List Summary} → ((old : List Summary) → length old ≡ n → Promised old old)

@@ -16,13 +16,11 @@ use Rattle.model.specs.declared.command.Read.{Read}
 use Rattle.model.specs.declared.command.Read.the-variants as found
 use Rattle.model.specs.declared.command.Decoded.{Decoded}
 use Rattle.model.specs.Commands.{isKind, bodySize, commandAt, countsAt, without, readAt}
-use Rattle.model.specs.Ledger.{Ledger, LedgerShape, lengths, lentConditions, formConditions, ownConditions, kindConditions, earlyConditions, refusal, obey, step}
+use Rattle.model.specs.Ledger.{Ledger, lentConditions, formConditions, ownConditions, kindConditions, earlyConditions, refusal, obey, step}
 use Rattle.model.specs.Representation.{Represents}
-use Rattle.model.specs.Promise.{valuesAt, reportValues, ReportsOf, Answered, Obeyed, KindPromise, BoardMade, numberOf, StatePromise, Promise}
-use Rattle.model.specs.Summary.{Current}
+use Rattle.model.specs.Promise.{valuesAt, reportValues, ReportsOf, Answered, Obeyed, KindPromise, BoardMade, StatePromise, Promise}
 use Rattle.model.specs.Laws.Refusals.{first-stands, rest-decides}
-use Rattle.layout.specs.declared.summary.Summary.{Summary}
-use Rattle.layout.specs.Memory.{State, Whole, wholeOf, lentWith}
+use Rattle.layout.specs.Memory.{State, Whole, lentWith}
 use Rattle.layout.specs.Sizes.{CommandLent, badLent?, badTable?}
 use Rattle.model.specs.Refusals.{firstOf, isRefusal}
 use Rattle.model.specs.Numbers as refused
@@ -162,11 +160,3 @@ pub refused-whole : (w : Whole) (bytes : List ℕ) (n : ℕ) → StatePromise (l
     → Promise w bytes (answer.Refused n) w
 refused-whole w bytes n promise =
     record { state = promise; table-kept = λ m e. refl; current = λ z. absurd (promise .never-zero (ap answer.Refused z)) }
-
--- with the right lengths lent: the table is kept by a refusal, and is current on what an accepted command leaves
-pub promise-whole : (s s′ : State) (bytes : List ℕ) (given : Answer) (old new : List Summary) → lentWith (wholeOf s old) ≡ lengths → StatePromise lengths s bytes given s′
-    → ((n : ℕ) → given ≡ answer.Refused n → new ≡ old)
-    → (numberOf given ≡ 0 → (L : Ledger) → LedgerShape L → Represents L s′ → Current (L .board) new)
-    → Promise (wholeOf s old) bytes given (wholeOf s′ new)
-promise-whole s s′ bytes given old new lent promise kept current =
-    record { state = subst (λ (l : CommandLent). StatePromise l s bytes given s′) (sym lent) promise; table-kept = kept; current = current }

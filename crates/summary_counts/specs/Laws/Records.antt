@@ -13,7 +13,7 @@ use Rattle.layout.specs.declared.value.Heads.{Heads}
 use Rattle.layout.specs.Sizes.{recordsLength}
 use Rattle.layout.specs.Summary.{noSummary, noRecords}
 use Rattle.tables.specs.Laws.Facts.{eq-or-ne}
-use Rattle.model.specs.Summary.{figuresOf, Counted}
+use Rattle.summary_counts.specs.Counted.{figuresOf, Counted}
 use Rattle.summary_counts.specs.Rules.{Columns}
 
 -- the record of call c, by the slot counts of the calls and the columns on each

@@ -14,7 +14,7 @@ use Rattle.tables.specs.Laws.Facts.{eq-or-ne}
 use Rattle.layout.specs.Places.{callOf}
 use Rattle.model.specs.Tests.{countBelow}
 use Rattle.model.specs.Laws.Tests.{count-bound, count-row}
-use Rattle.model.specs.Summary.{columnOn?, columnsOn}
+use Rattle.summary_counts.specs.Counted.{columnOn?, columnsOn}
 use Rattle.summary_counts.specs.Rules.{AtMost, ColumnAdded, ColumnsAdded, ColumnsTo}
 
 -- A COLUMN past the arity adds nothing; one of the rule's adds 1 to its call
