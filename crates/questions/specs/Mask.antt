@@ -1,4 +1,4 @@
--- The mask as the code makes it, slot by slot, and the rule of the table of weights; the digit of a slot in a mask.
+-- The mask as the code sums it up, slot by slot; the rule of the table of weights; and the digit of a slot in a mask.
 use mathlib.Core.Path.{_≡_}
 use mathlib.Core.Bool.{Bool, cond}
 use mathlib.Core.List.{List}
@@ -12,8 +12,8 @@ use Rattle.model.specs.Questions.{maskOf}
 abbrev pub digit : Bool → ℕ
 digit b = cond b 1 0
 
--- THE SLOTS BELOW n are in m
-pub record MaskTo (f : ℕ → Bool) (n m : ℕ) : Type 0 where
+-- THE SUM so far: m is the mask of the slots below n
+pub record SummedTo (f : ℕ → Bool) (n m : ℕ) : Type 0 where
   pub few : n ≤ 32
   pub is : m ≡ maskOf n f
 

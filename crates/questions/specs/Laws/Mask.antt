@@ -15,7 +15,7 @@ use Rattle.model.specs.Tests.{countBelow}
 use Rattle.model.specs.Questions.{maskOf}
 use Rattle.model.specs.Laws.Tests.{every→}
 use Rattle.model.specs.Laws.Masks.{mask-lowest}
-use Rattle.questions.specs.Mask.{digit, MaskTo, Weights, weights?}
+use Rattle.questions.specs.Mask.{digit, SummedTo, Weights, weights?}
 
 pub digit-below : (b : Bool) → digit b < 2
 digit-below true = omega arith
@@ -36,22 +36,22 @@ weights-tested table passes =
     record { each = λ s h. eqb→eq (getD table s 0) (2 ^ s) (every→ 32 (λ s. eqb (getD table s 0) (2 ^ s)) passes s h) }
 
 -- THE MASK, SLOT BY SLOT: w is the weight of slot n by the table, if it passes
-pub mask-none : (f : ℕ → Bool) → MaskTo f 0 0
-mask-none f = record { few = omega arith; is = refl }
+pub summed-none : (f : ℕ → Bool) → SummedTo f 0 0
+summed-none f = record { few = omega arith; is = refl }
 
-pub mask-more : {f : ℕ → Bool} {n m w : ℕ} {table : List ℕ} → MaskTo f n m → n < 32 → Weights table → w ≡ cond (f n) (getD table n 0) 0 → MaskTo f (n + 1) (m + w)
-mask-more {f} {n} {m} {w} x h weights is =
+pub summed-more : {f : ℕ → Bool} {n m w : ℕ} {table : List ℕ} → SummedTo f n m → n < 32 → Weights table → w ≡ cond (f n) (getD table n 0) 0 → SummedTo f (n + 1) (m + w)
+summed-more {f} {n} {m} {w} x h weights is =
     record { few = omega arith; is = sum (x .is) (is ∙ ap (λ (v : ℕ). cond (f n) v 0) (weights .each n h)) ∙ sym (ap (λ (k : ℕ). maskOf k f) (add-one n)) }
   where
     sum : {a b : ℕ} → m ≡ a → w ≡ b → m + w ≡ a + b
     sum p q = cc
 
 -- a mask of 32 slots or fewer fits 32 bits
-pub mask-fits : {f : ℕ → Bool} {n m : ℕ} → MaskTo f n m → m < 4294967296
-mask-fits {f} {n} x = let most : 2 ^ n ≤ 2 ^ 32 = pow-mono (x .few) in omega (arith, x .is, mask-below n f)
+pub summed-fits : {f : ℕ → Bool} {n m : ℕ} → SummedTo f n m → m < 4294967296
+summed-fits {f} {n} x = let most : 2 ^ n ≤ 2 ^ 32 = pow-mono (x .few) in omega (arith, x .is, mask-below n f)
 
-pub mask-all : {f : ℕ → Bool} {n m : ℕ} → MaskTo f n m → 32 ≤ n → m ≡ maskOf 32 f
-mask-all {f} {n} x g = let e : n ≡ 32 = omega (arith, x .few) in x .is ∙ ap (λ (k : ℕ). maskOf k f) e
+pub summed-all : {f : ℕ → Bool} {n m : ℕ} → SummedTo f n m → 32 ≤ n → m ≡ maskOf 32 f
+summed-all {f} {n} x g = let e : n ≡ 32 = omega (arith, x .few) in x .is ∙ ap (λ (k : ℕ). maskOf k f) e
 
 -- the count, with the lowest slot apart
 count-lowest : (n : ℕ) (f : ℕ → Bool) → countBelow (suc n) f ≡ countBelow n (λ i. f (suc i)) + digit (f 0)

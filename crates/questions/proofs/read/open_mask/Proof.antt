@@ -3,13 +3,13 @@ use Prim.Native.Nat.{_-_}
 use native.Mathlib.Omega.{arith}
 use borrow.Author.Needs.{needs}
 use Rattle.model.specs.Report.{open?}
-use Rattle.questions.specs.Mask.{MaskTo}
-use Rattle.questions.specs.Laws.Mask.{mask-none, mask-more, mask-fits, mask-all}
+use Rattle.questions.specs.Mask.{SummedTo}
+use Rattle.questions.specs.Laws.Mask.{summed-none, summed-more, summed-fits, summed-all}
 use Rattle.questions.proofs.read.open_mask.Statement.{statement}
 use Rattle.questions.proofs.read.open_mask.Tie as tie
 
 abbrev Inv-loop : tie.InvT-loop
-Inv-loop slots call base weights mask₀ s₀ mask s = MaskTo (open? slots call) s mask
+Inv-loop slots call base weights mask₀ s₀ mask s = SummedTo (open? slots call) s mask
 
 abbrev μ-loop : tie.MeasureT-loop
 μ-loop slots call base weights mask₀ s₀ mask s = 32 - s
@@ -21,7 +21,7 @@ slot-weights-requires : tie.Need-slot-weights-requires Inv-loop μ-loop
 slot-weights-requires c κs = search needs
 
 loop-holds : tie.Need-loop-holds Inv-loop μ-loop
-loop-holds c = mask-none _
+loop-holds c = summed-none _
 
 add-byte-at : tie.Need-add-byte-at Inv-loop μ-loop
 add-byte-at c = search needs
@@ -47,13 +47,13 @@ loop-less c = search needs
 loop-again : tie.Need-loop-again Inv-loop μ-loop
 loop-again c =
     let head = c .before .before .before in
-    mask-more (head .loop .inv) (omega arith) (head .before .slot-weights .ensures) (rw (← c .before .byte-at .ensures) (c .if-open .ensures))
+    summed-more (head .loop .inv) (omega arith) (head .before .slot-weights .ensures) (rw (← c .before .byte-at .ensures) (c .if-open .ensures))
 
 add-mask : tie.Need-add-mask Inv-loop μ-loop
-add-mask c = omega (arith, mask-fits (loop-again c))
+add-mask c = omega (arith, summed-fits (loop-again c))
 
 returns : tie.Need-returns Inv-loop μ-loop
-returns c = mask-all (c .before .loop .inv) (omega arith)
+returns c = summed-all (c .before .loop .inv) (omega arith)
 
 pub open-mask-spec : {M : Type 1} → statement M
 open-mask-spec =
