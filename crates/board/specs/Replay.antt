@@ -21,7 +21,7 @@ use Rattle.board.specs.declared.file.ReplayDone.{ReplayDone}
 use Rattle.board.specs.Lists.{After}
 use Rattle.model.specs.declared.answer.Answer.{Answer}
 use Rattle.model.specs.Ledger.{lentConditions, lengths, member}
-use Rattle.model.specs.Promise.{StatePromise}
+use Rattle.model.specs.Promise.{MemoryPromise}
 
 -- the bytes from a place up to another
 abbrev pub partOf : List ℕ → ℕ → ℕ → List ℕ
@@ -89,7 +89,7 @@ pub record CommandTaken (following : ℕ) (file : List ℕ) (p : Position) (befo
   pub count : q .ran ≡ p .ran + 1
   pub end : q .number ≡ 0
   pub given : Answer
-  pub promise : StatePromise lengths before (partOf file (p .at) following) given after
+  pub promise : MemoryPromise lengths before (partOf file (p .at) following) given after
 
 -- or the file ends, under a number
 pub record FileEnded (n : ℕ) (file : List ℕ) (p : Position) (before : State) (q : Position) (after : State) : Type 0 where

@@ -17,7 +17,7 @@ ghost use mathlib.Core.Path.{_≡_};
 ghost use lib.ListN.{length};
 ghost use Rattle.model.specs.Commands.{readAt};
 ghost use Rattle.model.specs.Ledger.{lengths};
-ghost use Rattle.model.specs.Promise.{StatePromise, Promise};
+ghost use Rattle.model.specs.Promise.{MemoryPromise, Promise};
 ghost use Rattle.layout.specs.Bounds.{Sizes};
 ghost use Rattle.layout.specs.Memory.{memory, wholeOf};
 ghost use Rattle.layout.specs.Sizes.{slotsLength};
@@ -41,7 +41,7 @@ fn obey_read(
 ) -> Outcome
     requires { ⌜ Sizes (now rows) (now killers) (now slots) ⌝ }
     requires { ⌜ decoded ≡ readAt (now bytes) 0 ⌝ }
-    ensures { λ o. ⌜ StatePromise lengths
+    ensures { λ o. ⌜ MemoryPromise lengths
         (memory value (rows .entry) (killers .entry) (slots .entry)) (now (bytes .entry))
         (o .answer) (memory (o .value) (rows .exit) (killers .exit) (slots .exit)) ⌝ }
 {
@@ -69,7 +69,7 @@ pub fn obey_bytes(
     slots: &mut [u8],
 ) -> Outcome
     requires { ⌜ Sizes (now rows) (now killers) (now slots) ⌝ }
-    ensures { λ r. ⌜ StatePromise lengths
+    ensures { λ r. ⌜ MemoryPromise lengths
         (memory value (rows .entry) (killers .entry) (slots .entry)) (now (bytes .entry))
         (r .answer) (memory (r .value) (rows .exit) (killers .exit) (slots .exit)) ⌝ }
 {

@@ -85,7 +85,7 @@ pub record BoardMade (ns : List ℕ) (given : Answer) (after : State) : Type 0 w
   pub represents : firstOf (kindConditions fresh kind.Board ns) ≡ 0 → Represents (effect fresh kind.Board ns) after
 
 -- OF VALUE AND BUFFERS, with all lengths that are lent
-pub record StatePromise (lent : CommandLent) (before : State) (bytes : List ℕ) (given : Answer) (after : State) : Type 0 where
+pub record MemoryPromise (lent : CommandLent) (before : State) (bytes : List ℕ) (given : Answer) (after : State) : Type 0 where
   -- WHATEVER THE MEMORY HOLDS (SCOPE 2.7): 1, 22, 3 and 4 are given on their conditions
   pub early : (n : ℕ) → firstOf (earlyConditions lent bytes) ≡ suc n → numberOf given ≡ suc n
   -- a refusal leaves value and buffers as they were (SCOPE 4.2), and has a number
@@ -99,7 +99,7 @@ pub record StatePromise (lent : CommandLent) (before : State) (bytes : List ℕ)
 
 -- THE ENTRY'S: of value, buffers and table
 pub record Promise (before : Whole) (bytes : List ℕ) (given : Answer) (after : Whole) : Type 0 where
-  pub state : StatePromise (lentWith before) (before .state) bytes given (after .state)
+  pub state : MemoryPromise (lentWith before) (before .state) bytes given (after .state)
   -- refused, the table is as it was (SCOPE 4.2)
   pub table-kept : (n : ℕ) → given ≡ answer.Refused n → after .table ≡ before .table
   -- accepted, it is current, whatever it held (SCOPE 2.9): on the board of every ledger that the state after is of

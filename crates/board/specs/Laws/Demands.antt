@@ -9,7 +9,7 @@ use Rattle.model.specs.Board.{Rule, Board, InForce, SelfSupporting, Viable, Ali
 use Rattle.model.specs.Records.{Open, Struck, Caused, KillerIn, Ring, NoRing, EscapeFromAll, Recorded}
 use Rattle.model.specs.Ledger.{Member, fresh, run}
 use Rattle.model.specs.Report.{slotCount, open?}
-use Rattle.model.specs.Summary.{recordOf, openTotal, openSum}
+use Rattle.model.specs.Summary.{Current, openTotal, openSum}
 use Rattle.model.specs.Laws.Theory as theory
 use Rattle.model.specs.Laws.Lists.{demand-3, demand-3-two, runs-represent}
 use Rattle.model.specs.Laws.Summary.{absent-zero, total-of-records, total-of-bytes}
@@ -70,17 +70,17 @@ module _ (ms : List Member) (s : Whole) (after : After ms s) where
   pub largest : (c t : ℕ) → Open B cause c t ↔ Viable B c t
   largest = demand-3 ms s after .viable
 
-  -- THE SUMMARY, after every list (SCOPE 2.9): each record is its call's,
-  pub records : (c : ℕ) → c < recordsLength → getD (s .table) c noSummary ≡ recordOf B c
-  records = runs-represent ms s after .2 .each
+  -- THE SUMMARY, after every list (SCOPE 2.9): the table has 32 records, and each is its call's,
+  pub current : Current B (s .table)
+  current = runs-represent ms s after .2
 
   -- which is all zeros where the board has no such call,
   pub absent : (c : ℕ) → length (B .counts) ≤ c → c < recordsLength → getD (s .table) c noSummary ≡ noSummary
-  absent c none lc = records c lc ∙ absent-zero B (runs-represent ms s after .0 .board) c none lc
+  absent c none lc = current .each c lc ∙ absent-zero B (runs-represent ms s after .0 .board) c none lc
 
   -- and the open slots of the whole board, O of the sheet (SCOPE 7.11), are the sum over the records and the count over the slot bytes
   pub total-records : openTotal B ≡ openSum (s .table)
-  total-records = total-of-records B (s .table) (runs-represent ms s after .2)
+  total-records = total-of-records B (s .table) current
 
   pub total-bytes : openTotal B ≡ slotCount (open? (s .state .slots))
   total-bytes = total-of-bytes (run fresh ms) (s .state) (runs-represent ms s after .1)

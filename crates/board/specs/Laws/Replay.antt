@@ -18,7 +18,7 @@ use Rattle.model.specs.Commands.{isKind, bodySize, commandAt, countsAt, without
 use Rattle.model.specs.declared.answer.Answer.the-variants as answer
 use Rattle.model.specs.Tests.{upFrom}
 use Rattle.model.specs.Ledger.{Member, fresh, run, lengths, member}
-use Rattle.model.specs.Promise.{StatePromise, Promise}
+use Rattle.model.specs.Promise.{MemoryPromise, Promise}
 use Rattle.model.specs.Lists.{Runs, done, then, Entered}
 use Rattle.model.specs.Sheet.{inputMost}
 use Rattle.model.specs.Numbers as refused
@@ -80,7 +80,7 @@ decoded-inside s at d is c e =
 -- ONE ROUND OF THE CODE, at which d was read
 module _ (file : List ℕ) (p : Position) (before : State) (d : Decoded) (is : d ≡ readAt file (p .at)) (q : Position) where
   pub taken-command : (after : State) (c : Command) → d .read ≡ found.Command c → q .at ≡ d .next → q .ran ≡ p .ran + 1 → q .number ≡ 0 → (given : Answer)
-      → StatePromise lengths before (partOf file (p .at) (d .next)) given after → Taken file p before q after
+      → MemoryPromise lengths before (partOf file (p .at) (d .next)) given after → Taken file p before q after
   taken-command after c e place count end given promise =
       record {
         by = subst (λ (x : Decoded). TakenBy (x .read) (x .next) file p before q after) is
@@ -141,7 +141,7 @@ abbrev tableAfter : Answer → State → List Summary → List Summary
 tableAfter (answer.Accepted r) after old = countedTable (after .value .heads) (after .slots)
 tableAfter (answer.Refused n) after old = old
 
-taken-whole : (s after : State) (bytes : List ℕ) (given : Answer) (old : List Summary) → lentWith (wholeOf s old) ≡ lengths → StatePromise lengths s bytes given after
+taken-whole : (s after : State) (bytes : List ℕ) (given : Answer) (old : List Summary) → lentWith (wholeOf s old) ≡ lengths → MemoryPromise lengths s bytes given after
     → Promise (wholeOf s old) bytes given (wholeOf after (tableAfter given after old))
 taken-whole s after bytes (answer.Accepted r) old lent promise =
     let new = countedTable (after .value .heads) (after .slots) in

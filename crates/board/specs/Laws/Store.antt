@@ -11,7 +11,7 @@ use Rattle.model.specs.declared.answer.Answer.{Answer}
 use Rattle.model.specs.declared.answer.Answer.the-variants as answer
 use Rattle.model.specs.declared.answer.Outcome.{Outcome}
 use Rattle.model.specs.Ledger.{Ledger, LedgerShape, lengths}
-use Rattle.model.specs.Promise.{numberOf, StatePromise, Promise}
+use Rattle.model.specs.Promise.{numberOf, MemoryPromise, Promise}
 use Rattle.model.specs.Representation.{Represents}
 use Rattle.model.specs.Summary.{Current}
 use Rattle.model.specs.Laws.Entry.{refused-lengths, refused-table, refused-whole}
@@ -27,12 +27,12 @@ use Rattle.board.specs.declared.run.Done.{Done}
 use Rattle.board.specs.Store.{Stores, countFor, WithRecords}
 
 -- THE ENTRY'S PROMISE with the right lengths lent: the table is kept by a refusal, and is current on what an accepted command leaves
-pub promise-whole : (s s′ : State) (bytes : List ℕ) (given : Answer) (old new : List Summary) → lentWith (wholeOf s old) ≡ lengths → StatePromise lengths s bytes given s′
+pub promise-whole : (s s′ : State) (bytes : List ℕ) (given : Answer) (old new : List Summary) → lentWith (wholeOf s old) ≡ lengths → MemoryPromise lengths s bytes given s′
     → ((n : ℕ) → given ≡ answer.Refused n → new ≡ old)
     → (numberOf given ≡ 0 → (L : Ledger) → LedgerShape L → Represents L s′ → Current (L .board) new)
     → Promise (wholeOf s old) bytes given (wholeOf s′ new)
 promise-whole s s′ bytes given old new lent promise kept current =
-    record { state = subst (λ (l : CommandLent). StatePromise l s bytes given s′) (sym lent) promise; table-kept = kept; current = current }
+    record { state = subst (λ (l : CommandLent). MemoryPromise l s bytes given s′) (sym lent) promise; table-kept = kept; current = current }
 
 -- no record is to be stored: what is promised of the table as it was is promised
 pub stores-none : {Promised : List Summary → List Summary → Type 0} {n : ℕ} {records : List Summary} → ((old : List Summary) → length old ≡ n → Promised old old)
@@ -90,7 +90,7 @@ module _ (s : State) (bytes : List ℕ) (n : ℕ) where
           let b = z .2 in
           cc
 
-      stores-given : (given : Answer) (records : List Summary) → StatePromise lengths s bytes given after
+      stores-given : (given : Answer) (records : List Summary) → MemoryPromise lengths s bytes given after
           → ((countFor given ≡ 0 → ⊥) → Counted (after .value .heads) (after .slots) records) → Stores (Kept given after) n (countFor given) records
       stores-given (answer.Accepted r) records promise counted =
           let c = counted (λ z. omega (arith, z)) in
@@ -104,7 +104,7 @@ module _ (s : State) (bytes : List ℕ) (n : ℕ) where
           promise-whole s after bytes (answer.Refused m) old old (own-lengths old (e ∙ right)) promise (λ k d. refl)
           (λ z. absurd (promise .never-zero (ap answer.Refused z))))
 
-      pub stores-done : (outcome : Outcome) (done : Done) → after .value ≡ outcome .value → StatePromise lengths s bytes (outcome .answer) after → WithRecords outcome (after .slots) done
+      pub stores-done : (outcome : Outcome) (done : Done) → after .value ≡ outcome .value → MemoryPromise lengths s bytes (outcome .answer) after → WithRecords outcome (after .slots) done
           → Stores (Kept (done .outcome .answer) (stateOf (done .outcome .value) (after .rows) (after .killers) (after .slots))) n (done .count) (done .table .records)
       stores-done outcome done value promise w =
           rw (w .outcome-same, ← value, w .count)

@@ -13,7 +13,7 @@ use Rattle.model.specs.declared.command.Decoded.{Decoded}
 use Rattle.model.specs.Commands.{kindOf, readAt}
 use Rattle.model.specs.Ledger.{Ledger, kindConditions, effect, obey, fresh, lengths}
 use Rattle.model.specs.Representation.{Represents}
-use Rattle.model.specs.Promise.{numberOf, Obeyed, KindPromise, StatePromise}
+use Rattle.model.specs.Promise.{numberOf, Obeyed, KindPromise, MemoryPromise}
 use Rattle.model.specs.Laws.Answers.{refused-by, never-zero-by}
 use Rattle.model.specs.Laws.Entry.{well-formed, kind-promise}
 use Rattle.command_board.specs.Made.{MakesBoard}
@@ -59,7 +59,7 @@ board-obeys {before} {after} {c} {ns} {given} is m =
 
 -- THE ENTRY'S PROMISE OF VALUE AND BUFFERS from a command that was read whole, as d at the first byte, with nothing left over, and obeyed: the lengths are right
 pub obeys-promise : {s after : State} {bytes : List ℕ} {c : Command} {given : Answer} (d : Decoded) → d ≡ readAt bytes 0
-    → d .read ≡ found.Command c → length bytes ≤ d .next → Obeys s c (d .counts) given after → StatePromise lengths s bytes given after
+    → d .read ≡ found.Command c → length bytes ≤ d .next → Obeys s c (d .counts) given after → MemoryPromise lengths s bytes given after
 obeys-promise {s} {after} {bytes} {c} {given} d decoded is whole o =
     let read : readAt bytes 0 .read ≡ found.Command c = ap (λ (x : Decoded). x .read) (sym decoded) ∙ is in
     let same = subst (λ (x : Decoded). Obeys s c (x .counts) given after) decoded o in

@@ -18,7 +18,7 @@ use Rattle.model.specs.declared.command.Decoded.{Decoded}
 use Rattle.model.specs.Commands.{isKind, bodySize, commandAt, countsAt, without, readAt}
 use Rattle.model.specs.Ledger.{Ledger, lentConditions, formConditions, ownConditions, kindConditions, earlyConditions, refusal, obey, step}
 use Rattle.model.specs.Representation.{Represents}
-use Rattle.model.specs.Promise.{valuesAt, reportValues, ReportsOf, Answered, Obeyed, KindPromise, BoardMade, StatePromise, Promise}
+use Rattle.model.specs.Promise.{valuesAt, reportValues, ReportsOf, Answered, Obeyed, KindPromise, BoardMade, MemoryPromise, Promise}
 use Rattle.model.specs.Laws.Refusals.{first-stands, rest-decides}
 use Rattle.layout.specs.Memory.{State, Whole, lentWith}
 use Rattle.layout.specs.Sizes.{CommandLent, badLent?, badTable?}
@@ -60,7 +60,7 @@ module _ (lent : CommandLent) (bytes : List ℕ) where
 
 -- REFUSED FOR LENGTHS OR FORM
 refused-promise : (lent : CommandLent) (s : State) (bytes : List ℕ) (n : ℕ) → T (isRefusal n) → firstOf (earlyConditions lent bytes) ≡ n
-    → StatePromise lent s bytes (answer.Refused n) s
+    → MemoryPromise lent s bytes (answer.Refused n) s
 refused-promise lent s bytes zero t e = absurd t
 refused-promise lent s bytes (suc n) t e =
     record {
@@ -89,10 +89,10 @@ refused-promise lent s bytes (suc n) t e =
 
 -- the five refusals that the entry gives by itself, as it comes upon them
 module _ (lent : CommandLent) (s : State) (bytes : List ℕ) where
-  pub refused-lengths : badLent? (lent .buffers) ≡ true → StatePromise lent s bytes (answer.Refused refused.bufferLength) s
+  pub refused-lengths : badLent? (lent .buffers) ≡ true → MemoryPromise lent s bytes (answer.Refused refused.bufferLength) s
   refused-lengths bad = refused-promise lent s bytes refused.bufferLength tt (early-lengths lent bytes bad)
 
-  pub refused-table : badLent? (lent .buffers) ≡ false → badTable? lent ≡ true → StatePromise lent s bytes (answer.Refused refused.tableLength) s
+  pub refused-table : badLent? (lent .buffers) ≡ false → badTable? lent ≡ true → MemoryPromise lent s bytes (answer.Refused refused.tableLength) s
   refused-table good bad = refused-promise lent s bytes refused.tableLength tt (early-table lent bytes good bad)
 
   -- of d, which was read at the first byte
@@ -103,15 +103,15 @@ module _ (lent : CommandLent) (s : State) (bytes : List ℕ) where
         ∙ ap (λ (x : Decoded). firstOf (formConditions (x .read) (ltb (x .next) (length bytes)))) (sym decoded)
         ∙ ap (λ (x : Read). firstOf (formConditions x (ltb (d .next) (length bytes)))) is
 
-    pub refused-end : d .read ≡ found.End → StatePromise lent s bytes (answer.Refused refused.unknownKind) s
+    pub refused-end : d .read ≡ found.End → MemoryPromise lent s bytes (answer.Refused refused.unknownKind) s
     refused-end is = refused-promise lent s bytes refused.unknownKind tt (early-read found.End is)
 
-    pub refused-read : (k n : ℕ) → d .read ≡ found.Refused k n → StatePromise lent s bytes (answer.Refused n) s
+    pub refused-read : (k n : ℕ) → d .read ≡ found.Refused k n → MemoryPromise lent s bytes (answer.Refused n) s
     refused-read k n is =
         refused-promise lent s bytes n (read-number bytes 0 k n (ap (λ (x : Decoded). x .read) (sym decoded) ∙ is)) (early-read (found.Refused k n) is)
 
     module _ (c : Command) (is : d .read ≡ found.Command c) where
-      pub refused-left-over : d .next < length bytes → StatePromise lent s bytes (answer.Refused refused.bodyLength) s
+      pub refused-left-over : d .next < length bytes → MemoryPromise lent s bytes (answer.Refused refused.bodyLength) s
       refused-left-over more = refused-promise lent s bytes refused.bodyLength tt (early-read (found.Command c) is ∙ rw (lt-ltb (d .next) (length bytes) more) refl)
 
       -- and none of them
@@ -130,7 +130,7 @@ module _ (lent : CommandLent) (s : State) (bytes : List ℕ) (c : Command) (give
       early r = lentConditions lent ++ formConditions r (ltb (readAt bytes 0 .next) (length bytes))
 
   pub kind-promise : KindPromise s c (readAt bytes 0 .counts) given after → (c ≡ kind.Board → BoardMade (readAt bytes 0 .counts) given after)
-      → StatePromise lent s bytes given after
+      → MemoryPromise lent s bytes given after
   kind-promise promise made =
       record {
         early = λ m d. absurd (omega (arith, passes, d));
@@ -156,7 +156,7 @@ module _ (lent : CommandLent) (s : State) (bytes : List ℕ) (c : Command) (give
               ∙ ap (λ (r : Read). obey (firstOf (kindConditions L c (readAt bytes 0 .counts))) L r (readAt bytes 0 .counts)) is
 
 -- THE ENTRY'S PROMISE, of the table too. Refused, everything is as it was
-pub refused-whole : (w : Whole) (bytes : List ℕ) (n : ℕ) → StatePromise (lentWith w) (w .state) bytes (answer.Refused n) (w .state)
+pub refused-whole : (w : Whole) (bytes : List ℕ) (n : ℕ) → MemoryPromise (lentWith w) (w .state) bytes (answer.Refused n) (w .state)
     → Promise w bytes (answer.Refused n) w
 refused-whole w bytes n promise =
     record { state = promise; table-kept = λ m e. refl; current = λ z. absurd (promise .never-zero (ap answer.Refused z)) }
