@@ -2,13 +2,14 @@
  * The berth board, for a host in C (C99 and later) or C++. Link libberth.a.
  *
  * A board has 1 to 32 calls, each with 1 to 32 slots, and up to 64 rules. Everything is numbered from 0 and is one unsigned byte. The library keeps nothing:
- * the host holds a value and three buffers and lends them to every function. Commands write all four in place. struct berth_board below holds all of it.
+ * the host holds a value, three buffers and a summary table. It lends value and buffers to every function, and the table to commands, which write all five in
+ * place. struct berth_board below holds all of it.
  *
- * Each function is proved to return, and to stay inside what it is lent, whatever the value, the buffers and the command's bytes hold. What the host has to see
- * to: the library is the header's (berth_header_fits), a pointer is not null and reaches as far as its length says, and what is lent to one call, the value among
- * it, does not overlap.
+ * Each function is proved to return, and to stay inside what it is lent, whatever the value, the buffers, the table and the command's bytes hold. What the host
+ * has to see to: the library is the header's (berth_header_fits), a pointer is not null and reaches as far as its length says, and what is lent to one call, the
+ * value among it, does not overlap.
  *
- * A board takes 22,183 bytes, 679 of them the value's, and the library takes nothing from a heap. It has no variables, so boards have nothing to do with each
+ * A board takes 22,279 bytes, 679 of them the value's, and the library takes nothing from a heap. It has no variables, so boards have nothing to do with each
  * other: threads may work on different boards at once. A board is one thread's at a time, except that several may ask it questions while none sends a command.
  *
  * Memory that is lent, in bytes:
@@ -16,9 +17,11 @@
  *                    rules out of force, hold 255.
  *   killers   4,096  byte 64 * r + w is the column (0 to 3) of a struck slot in row w of rule r where that row is dead, else 255.
  *   slots     1,024  byte 32 * call + slot is 255 for an open slot, 254 for one that is not on the board, else its cause: the number of a rule on its call.
- * Before the first command they hold 255, 255 and 254 throughout, beside the value of berth_fresh(). As long as only commands write them, what is open is arc
- * consistent under the rules in force, and no larger set of slots is. If the host alters any of it, functions still return, stay inside and change nothing
- * when they refuse.
+ *   table        96  record c, of three bytes, has the figures of call c: its open slots, its struck slots, and the rules in force on it. A call that is not on
+ *                    the board has zeros.
+ * Before the first command they hold 255, 255, 254 and 0 throughout, beside the value of berth_fresh(). As long as only commands write value and buffers, what is
+ * open is arc consistent under the rules in force, and no larger set of slots is; and a command that is accepted brings all of the table up to date, whatever it
+ * held. If the host alters any of it, functions still return, stay inside and change nothing when they refuse.
  *
  * A command is one byte of kind and a body:
  *   1 board  32 slot counts, 0 after the last call      a new board, without rules and draft
@@ -44,17 +47,20 @@ extern "C" {
 #define BERTH_SLOTS 1024
 #define BERTH_VALUE_SIZE 679
 
+/* The summary table's length, in records. */
+#define BERTH_RECORDS 32
+
 /* The longest file of commands that is read. */
 #define BERTH_FILE 32768
 
 /*
  * The stack that a call needs, with the copies of the value that the questions are handed. It is measured and not proved: on x86-64, over every function and the
- * commands of a full board, hosts/stack.c found 7,080 bytes where it was compiled with -O2, 7,208 without optimisation, and 8,056, the most, with -O3.
+ * commands of a full board, hosts/stack.c found 7,928 bytes where it was compiled with -O2 or -O3, and 8,040, the most, without optimisation.
  */
 #define BERTH_STACK 12288
 
 /* The version that this header is of. It rises with any change of a struct, of a function or of what one means. */
-#define BERTH_VERSION 3
+#define BERTH_VERSION 4
 
 /* The version of the library, and the bytes of its value. They are plain numbers, so that they can be asked whatever else differs. */
 uint32_t berth_version(void);
@@ -65,7 +71,7 @@ enum berth_kind { BERTH_BOARD = 1, BERTH_HEAD = 2, BERTH_ROW = 3, BERTH_PUT = 4,
 
 /*
  * A reply's number: 0, or why it was refused; berth_refusal_text has the conditions. The first that holds decides: commands and questions check in the order
- * that stands with them below. BERTH_FILE_LENGTH is of whole files alone, of berth_replay's and the sheet program's.
+ * that stands with them below. BERTH_FILE_LENGTH is of whole files alone, of berth_replay's and the sheet program's; BERTH_TABLE_LENGTH is of no question.
  */
 enum berth_refusal {
     BERTH_BUFFER_LENGTH = 1,
@@ -88,7 +94,8 @@ enum berth_refusal {
     BERTH_NO_SUCH_CALL = 18,
     BERTH_NO_SUCH_SLOT = 19,
     BERTH_NO_SUCH_ROW = 20,
-    BERTH_NO_SUCH_COLUMN = 21
+    BERTH_NO_SUCH_COLUMN = 21,
+    BERTH_TABLE_LENGTH = 22
 };
 
 /* The condition that a refusal's number stands for. */
@@ -115,6 +122,7 @@ static inline const char *berth_refusal_text(uint8_t number) {
     case BERTH_NO_SUCH_SLOT: return "there is no such slot";
     case BERTH_NO_SUCH_ROW: return "the rule has no such row";
     case BERTH_NO_SUCH_COLUMN: return "the rule has no such column";
+    case BERTH_TABLE_LENGTH: return "the summary table is not 32 records";
     default: return "no refusal has this number";
     }
 }
@@ -147,8 +155,16 @@ struct berth_value {
     struct berth_draft draft;
 };
 
+/* The figures of a call: a record of the summary table. */
+struct berth_summary {
+    uint8_t open;   /* its open slots */
+    uint8_t struck; /* its struck slots */
+    uint8_t rules;  /* the rules in force on it */
+};
+
 /* The compiler leaves no room between the fields. */
 typedef char berth_value_is_packed[sizeof(struct berth_value) == BERTH_VALUE_SIZE ? 1 : -1];
+typedef char berth_summary_is_packed[sizeof(struct berth_summary) == 3 ? 1 : -1];
 
 /* Whether the linked library is the one that this header describes: 1, or 0, and then no other function may be called. */
 static inline int berth_header_fits(void) {
@@ -159,9 +175,9 @@ static inline int berth_header_fits(void) {
 struct berth_value berth_fresh(void);
 
 /*
- * A command. The value and the buffers are written in place; where it is refused, all of them stay as they were. The value must not overlap the command's bytes
- * or a buffer.
- * Checked, by kind: 1, 3, 4, then
+ * A command. The value, the buffers and the table are written in place; where it is refused, all of them stay as they were. None of them may overlap another or
+ * the command's bytes.
+ * Checked, by kind: 1, 22, 3, 4, then
  *   board 5; head 6, 7, 8, 9, 10, 11; row 6, 12, 13, 14, 11, 15; put 6, 12, 16; lift 6, 7, 17.
  */
 struct berth_command_reply {
@@ -172,30 +188,33 @@ struct berth_command_reply {
 };
 
 struct berth_command_reply berth_command(struct berth_value *value, const uint8_t *bytes, size_t bytes_length, uint8_t *rows, size_t rows_length,
-                                         uint8_t *killers, size_t killers_length, uint8_t *slots, size_t slots_length);
+                                         uint8_t *killers, size_t killers_length, uint8_t *slots, size_t slots_length, struct berth_summary *table,
+                                         size_t table_length);
 
 /*
- * The memory becomes a fresh board's, whatever value and buffers held; S, R and T are 0. The value is lent as to berth_command. Checked: 1; where it is refused
- * nothing changes.
- */
-struct berth_command_reply berth_fresh_board(struct berth_value *value, uint8_t *rows, size_t rows_length, uint8_t *killers, size_t killers_length,
-                                             uint8_t *slots, size_t slots_length);
-
-/*
- * A file of commands, one after another, at most BERTH_FILE bytes. The memory becomes a fresh board's, whatever value and buffers held; then each command is run,
- * and those that are refused change nothing, up to the file's end or the first that cannot be read (3, 4). The value is lent as to berth_command. Checked before
- * anything is changed: 1, 2.
+ * A file of commands, one after another, at most BERTH_FILE bytes. The memory becomes a fresh board's, whatever value, buffers and table held; then each command
+ * is run, and those that are refused change nothing, up to the file's end or the first that cannot be read (3, 4). The table is current then, too. All is lent as
+ * to berth_command. Checked before anything is changed: 1, 22, 2.
  */
 struct berth_replay_reply {
     size_t ran;     /* commands that were run, also those that were refused */
-    uint8_t number; /* 1 or 2, and nothing was changed; else how the file ended: 0 where all of it was run, or 3 or 4 */
+    uint8_t number; /* 1, 22 or 2, and nothing was changed; else how the file ended: 0 where all of it was run, or 3 or 4 */
 };
 
 struct berth_replay_reply berth_replay(struct berth_value *value, const uint8_t *file, size_t file_length, uint8_t *rows, size_t rows_length,
-                                       uint8_t *killers, size_t killers_length, uint8_t *slots, size_t slots_length);
+                                       uint8_t *killers, size_t killers_length, uint8_t *slots, size_t slots_length, struct berth_summary *table,
+                                       size_t table_length);
+
+/* The memory becomes a fresh board's, whatever it held: a file without commands is replayed. Checked: 1, 22; where it is refused nothing changes. */
+static inline struct berth_replay_reply berth_fresh_board(struct berth_value *value, uint8_t *rows, size_t rows_length, uint8_t *killers,
+                                                          size_t killers_length, uint8_t *slots, size_t slots_length, struct berth_summary *table,
+                                                          size_t table_length) {
+    static const uint8_t no_commands[1] = {0};
+    return berth_replay(value, no_commands, 0, rows, rows_length, killers, killers_length, slots, slots_length, table, table_length);
+}
 
 /*
- * The questions. They write nothing, so each is handed a copy of the value.
+ * The questions. They write nothing, so each is handed a copy of the value, and they are not lent the table.
  *
  * The slots of a call. Checked: 1, 6, 18.
  */
@@ -257,26 +276,28 @@ struct berth_board {
     uint8_t rows[BERTH_ROWS];
     uint8_t killers[BERTH_KILLERS];
     uint8_t slots[BERTH_SLOTS];
+    struct berth_summary table[BERTH_RECORDS];
 };
 
-/* The parts of a board, in the order in which the questions take them. */
-#define BERTH_PARTS(board) (board)->value, (board)->rows, BERTH_ROWS, (board)->killers, BERTH_KILLERS, (board)->slots, BERTH_SLOTS
+/* The buffers of a board, in the order in which every function takes them; and with the value, as the questions take it. */
+#define BERTH_BUFFERS(board) (board)->rows, BERTH_ROWS, (board)->killers, BERTH_KILLERS, (board)->slots, BERTH_SLOTS
+#define BERTH_PARTS(board) (board)->value, BERTH_BUFFERS(board)
 
 /* Makes it a fresh board, before any command, and returns 1. Where the library is not the header's it returns 0 and does nothing. */
 BERTH_CHECKED static inline int berth_board_clear(struct berth_board *board) {
     if (!berth_header_fits())
         return 0;
-    berth_fresh_board(&board->value, board->rows, BERTH_ROWS, board->killers, BERTH_KILLERS, board->slots, BERTH_SLOTS);
+    berth_fresh_board(&board->value, BERTH_BUFFERS(board), board->table, BERTH_RECORDS);
     return 1;
 }
 
 /* Makes it a fresh board and runs a file of commands on it. */
 static inline struct berth_replay_reply berth_board_replay(struct berth_board *board, const uint8_t *bytes, size_t length) {
-    return berth_replay(&board->value, bytes, length, board->rows, BERTH_ROWS, board->killers, BERTH_KILLERS, board->slots, BERTH_SLOTS);
+    return berth_replay(&board->value, bytes, length, BERTH_BUFFERS(board), board->table, BERTH_RECORDS);
 }
 
 static inline struct berth_command_reply berth_board_command(struct berth_board *board, const uint8_t *bytes, size_t length) {
-    return berth_command(&board->value, bytes, length, board->rows, BERTH_ROWS, board->killers, BERTH_KILLERS, board->slots, BERTH_SLOTS);
+    return berth_command(&board->value, bytes, length, BERTH_BUFFERS(board), board->table, BERTH_RECORDS);
 }
 
 /*
@@ -355,6 +376,12 @@ static inline struct berth_command_reply berth_board_put(struct berth_board *boa
 
 static inline struct berth_command_reply berth_board_lift(struct berth_board *board, uint8_t number) {
     return berth_board_obey(board, berth_make_lift(number));
+}
+
+/* The record of a call, read from the board's table; zeros for a call that is not on the board. */
+static inline struct berth_summary berth_board_summary(const struct berth_board *board, uint8_t call) {
+    static const struct berth_summary none = {0, 0, 0};
+    return call < BERTH_RECORDS ? board->table[call] : none;
 }
 
 static inline struct berth_slots_reply berth_board_open_slots(const struct berth_board *board, uint8_t call) {

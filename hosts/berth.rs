@@ -1,5 +1,5 @@
-//! The berth board for a host in Rust: one file, and the static library libberth.a. `Board` owns the value beside the buffers and the three buffers, and only
-//! commands change them; what a board is, and what the bytes of a command are, is said in berth.h.
+//! The berth board for a host in Rust: one file, and the static library libberth.a. `Board` owns the value beside the buffers, the three buffers and the summary
+//! table, and only commands change them; what a board is, and what the bytes of a command are, is said in berth.h.
 //!
 //! The functions of the module `lent` work on memory that the caller lends, of any length and with any contents: the library is proved to return and to stay
 //! inside it, so they are safe with a library of this file's version. `Board` hands its own memory to them.
@@ -12,11 +12,14 @@ pub const ROWS: usize = 16384;
 pub const KILLERS: usize = 4096;
 pub const SLOTS: usize = 1024;
 
+/// The summary table's length, in records.
+pub const RECORDS: usize = 32;
+
 /// The longest file of commands that is read.
 pub const FILE: usize = 32768;
 
 /// The version that this file is of; the library has its own.
-pub const VERSION: u32 = 3;
+pub const VERSION: u32 = 4;
 
 /// The calls and the heads of the rules in force.
 #[repr(C)]
@@ -59,6 +62,18 @@ pub struct Draft {
 pub struct Value {
     pub heads: Heads,
     pub draft: Draft,
+}
+
+/// The figures of a call: a record of the summary table. A call that is not on the board has zeros.
+#[repr(C)]
+#[derive(Clone, Copy, Debug, Default, PartialEq, Eq)]
+pub struct Summary {
+    /// its open slots
+    pub open: u8,
+    /// its struck slots
+    pub struck: u8,
+    /// the rules in force on it
+    pub rules: u8,
 }
 
 /// Declares `Refusal` from a table of numbers, names and words. The header's `enum berth_refusal` and `berth_refusal_text` say the same.
@@ -121,6 +136,7 @@ refusals! {
     19 NoSuchSlot "there is no such slot"
     20 NoSuchRow "the rule has no such row"
     21 NoSuchColumn "the rule has no such column"
+    22 TableLength "the summary table is not 32 records"
 }
 
 impl fmt::Display for Refusal {
@@ -219,9 +235,8 @@ pub mod lent {
         fn berth_version() -> u32;
         fn berth_value_size() -> usize;
         fn berth_fresh() -> Value;
-        fn berth_command(value: *mut Value, bytes: Lent, b: usize, rows: LentMut, r: usize, killers: LentMut, k: usize, slots: LentMut, s: usize) -> CommandReply;
-        fn berth_fresh_board(value: *mut Value, rows: LentMut, r: usize, killers: LentMut, k: usize, slots: LentMut, s: usize) -> CommandReply;
-        fn berth_replay(value: *mut Value, file: Lent, f: usize, rows: LentMut, r: usize, killers: LentMut, k: usize, slots: LentMut, s: usize) -> ReplayReply;
+        fn berth_command(value: *mut Value, bytes: Lent, b: usize, rows: LentMut, r: usize, killers: LentMut, k: usize, slots: LentMut, s: usize, table: *mut Summary, t: usize) -> CommandReply;
+        fn berth_replay(value: *mut Value, file: Lent, f: usize, rows: LentMut, r: usize, killers: LentMut, k: usize, slots: LentMut, s: usize, table: *mut Summary, t: usize) -> ReplayReply;
         fn berth_open_slots(value: Value, rows: Lent, r: usize, killers: Lent, k: usize, slots: Lent, s: usize, call: u8) -> SlotsReply;
         fn berth_slot_state(value: Value, rows: Lent, r: usize, killers: Lent, k: usize, slots: Lent, s: usize, call: u8, slot: u8) -> ByteReply;
         fn berth_row_state(value: Value, rows: Lent, r: usize, killers: Lent, k: usize, slots: Lent, s: usize, rule: u8, row: u8) -> ByteReply;
@@ -258,15 +273,16 @@ pub mod lent {
         unsafe { berth_fresh() }
     }
 
-    /// A command. The value is written in place; a refusal leaves it and every byte as they were.
+    /// A command. Value, buffers and table are written in place; a refusal leaves all of them as they were.
     pub fn command(
         value: &mut Value,
         bytes: &[u8],
         rows: &mut [u8],
         killers: &mut [u8],
         slots: &mut [u8],
+        table: &mut [Summary],
     ) -> Answer<Report> {
-        // SAFETY: each pointer is a slice's, with that slice's length, so it reaches as far, or the value's; the four that are written are unique borrows, which
+        // SAFETY: each pointer is a slice's, with that slice's length, so it reaches as far, or the value's; the five that are written are unique borrows, which
         // overlap nothing. Whatever the slices and the value hold, the function returns and writes only inside them.
         let reply = unsafe {
             berth_command(
@@ -279,36 +295,22 @@ pub mod lent {
                 killers.len(),
                 slots.as_mut_ptr(),
                 slots.len(),
+                table.as_mut_ptr(),
+                table.len(),
             )
         };
         let report = Report { struck: reply.struck, reopened: reply.reopened, touched: reply.touched };
         answer(reply.number, report)
     }
 
-    /// A fresh board, whatever the memory held. A refusal leaves the value and every byte as they were.
-    pub fn fresh_board(value: &mut Value, rows: &mut [u8], killers: &mut [u8], slots: &mut [u8]) -> Answer<()> {
-        // SAFETY: as in `command`.
-        let reply = unsafe {
-            berth_fresh_board(
-                value,
-                rows.as_mut_ptr(),
-                rows.len(),
-                killers.as_mut_ptr(),
-                killers.len(),
-                slots.as_mut_ptr(),
-                slots.len(),
-            )
-        };
-        answer(reply.number, ())
-    }
-
-    /// A fresh board, and the commands of a file run on it, up to the first that cannot be read. Refused for its lengths, the value and every byte are as they were.
+    /// A fresh board, and the commands of a file run on it, up to the first that cannot be read. Where a length is refused, all is as it was.
     pub fn replay(
         value: &mut Value,
         file: &[u8],
         rows: &mut [u8],
         killers: &mut [u8],
         slots: &mut [u8],
+        table: &mut [Summary],
     ) -> Answer<Replay> {
         // SAFETY: as in `command`.
         let reply = unsafe {
@@ -322,12 +324,25 @@ pub mod lent {
                 killers.len(),
                 slots.as_mut_ptr(),
                 slots.len(),
+                table.as_mut_ptr(),
+                table.len(),
             )
         };
         match answer(reply.number, ()).err() {
-            Some(refusal @ (Refusal::BufferLength | Refusal::FileLength)) => Err(refusal),
+            Some(refusal @ (Refusal::BufferLength | Refusal::TableLength | Refusal::FileLength)) => Err(refusal),
             end => Ok(Replay { ran: reply.ran, end }),
         }
+    }
+
+    /// A fresh board, whatever the memory held: a file without commands is replayed. Where a length is refused, all is as it was.
+    pub fn fresh_board(
+        value: &mut Value,
+        rows: &mut [u8],
+        killers: &mut [u8],
+        slots: &mut [u8],
+        table: &mut [Summary],
+    ) -> Answer<()> {
+        replay(value, &[], rows, killers, slots, table).map(|_| ())
     }
 
     /// What the questions are asked of.
@@ -409,6 +424,7 @@ pub struct Board {
     rows: Box<[u8]>,
     killers: Box<[u8]>,
     slots: Box<[u8]>,
+    table: [Summary; RECORDS],
 }
 
 impl Default for Board {
@@ -427,22 +443,26 @@ fn filled(start: &[u8], fields: &[u8], length: usize, spare: u8) -> Vec<u8> {
 impl Board {
     /// A fresh board, before any command. Panics where the library is not this file's.
     pub fn new() -> Self {
-        Board {
+        let zeros = |length: usize| vec![0; length].into_boxed_slice();
+        let mut board = Board {
             value: lent::fresh(),
-            rows: vec![255; ROWS].into(),
-            killers: vec![255; KILLERS].into(),
-            slots: vec![254; SLOTS].into(),
-        }
+            rows: zeros(ROWS),
+            killers: zeros(KILLERS),
+            slots: zeros(SLOTS),
+            table: [Summary::default(); RECORDS],
+        };
+        board.replay(&[]).expect("a board's memory is of its lengths");
+        board
     }
 
     /// A command by its bytes.
     pub fn command(&mut self, bytes: &[u8]) -> Answer<Report> {
-        lent::command(&mut self.value, bytes, &mut self.rows, &mut self.killers, &mut self.slots)
+        lent::command(&mut self.value, bytes, &mut self.rows, &mut self.killers, &mut self.slots, &mut self.table)
     }
 
     /// Becomes a fresh board and runs a file of commands, up to the first that cannot be read. A file of over 32,768 bytes is refused, and changes nothing.
     pub fn replay(&mut self, file: &[u8]) -> Answer<Replay> {
-        lent::replay(&mut self.value, file, &mut self.rows, &mut self.killers, &mut self.slots)
+        lent::replay(&mut self.value, file, &mut self.rows, &mut self.killers, &mut self.slots, &mut self.table)
     }
 
     /// Kind 1: a new board with these slot counts, of at most 32 calls; rules and draft are gone.
@@ -469,6 +489,16 @@ impl Board {
     /// Kind 5: the rule leaves force.
     pub fn lift(&mut self, number: u8) -> Answer<Report> {
         self.command(&[5, number])
+    }
+
+    /// The figures of a call; zeros where it is not on the board.
+    pub fn summary(&self, call: u8) -> Summary {
+        self.table.get(call as usize).copied().unwrap_or_default()
+    }
+
+    /// The figures of all calls.
+    pub fn summaries(&self) -> &[Summary; RECORDS] {
+        &self.table
     }
 
     /// The value and the buffers, to look at.

@@ -1,5 +1,5 @@
 /* The worked session of docs/SCOPE.md on a board of a C host: a line for each command, as the sheet program writes it, and after each put and lift the open
-   slots of every call. What was refused, and why, goes to standard error. */
+   slots of every call and its figures from the summary table. What was refused, and why, goes to standard error. */
 #include "berth.h"
 #include <stdio.h>
 
@@ -12,7 +12,7 @@ static void print_reply(enum berth_kind kind, struct berth_command_reply reply) 
     fprintf(stderr, "refused: %s\n", berth_refusal_text(reply.number));
 }
 
-static void print_slots(const struct berth_board *board) {
+static void print_calls(const struct berth_board *board) {
     for (uint8_t call = 0; call < 32; call++) {
         struct berth_slots_reply reply = berth_board_open_slots(board, call);
         if (reply.number != 0)
@@ -22,6 +22,8 @@ static void print_slots(const struct berth_board *board) {
             if (reply.mask >> slot & 1)
                 printf(" %d", slot);
         printf("\n");
+        struct berth_summary figures = berth_board_summary(board, call);
+        printf("call %d: open %d, struck %d, rules %d\n", call, figures.open, figures.struck, figures.rules);
     }
 }
 
@@ -37,13 +39,13 @@ int main(void) {
     print_reply(BERTH_ROW, berth_board_row(&board, row_0, 2));
     print_reply(BERTH_ROW, berth_board_row(&board, row_1, 2));
     print_reply(BERTH_PUT, berth_board_put(&board));
-    print_slots(&board);
+    print_calls(&board);
     print_reply(BERTH_HEAD, berth_board_head(&board, 5, calls, 1));
     print_reply(BERTH_ROW, berth_board_row(&board, row_0, 1));
     print_reply(BERTH_PUT, berth_board_put(&board));
-    print_slots(&board);
+    print_calls(&board);
     print_reply(BERTH_LIFT, berth_board_lift(&board, 5));
-    print_slots(&board);
+    print_calls(&board);
     print_reply(BERTH_LIFT, berth_board_lift(&board, 5));
     printf("end\n");
     return 0;

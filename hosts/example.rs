@@ -1,5 +1,5 @@
 //! The worked session of docs/SCOPE.md on a board of a Rust host: a line for each command, as the sheet program writes it, and after each put and lift the open
-//! slots of every call. What was refused, and why, goes to standard error.
+//! slots of every call and its figures from the summary table. What was refused, and why, goes to standard error.
 mod berth;
 
 use berth::{Answer, Board, Report};
@@ -14,7 +14,7 @@ fn print_answer(kind: u8, answer: Answer<Report>) {
     }
 }
 
-fn print_slots(board: &Board) {
+fn print_calls(board: &Board) {
     for call in 0..32 {
         let Ok(open) = board.open_slots(call) else {
             return;
@@ -24,6 +24,8 @@ fn print_slots(board: &Board) {
             print!(" {}", slot);
         }
         println!();
+        let figures = board.summary(call);
+        println!("call {}: open {}, struck {}, rules {}", call, figures.open, figures.struck, figures.rules);
     }
 }
 
@@ -34,13 +36,13 @@ fn main() {
     print_answer(3, board.row(&[0, 0]));
     print_answer(3, board.row(&[1, 1]));
     print_answer(4, board.put());
-    print_slots(&board);
+    print_calls(&board);
     print_answer(2, board.head(5, &[0]));
     print_answer(3, board.row(&[0]));
     print_answer(4, board.put());
-    print_slots(&board);
+    print_calls(&board);
     print_answer(5, board.lift(5));
-    print_slots(&board);
+    print_calls(&board);
     print_answer(5, board.lift(5));
     println!("end");
 }

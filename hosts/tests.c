@@ -12,6 +12,27 @@ static void same(const char *what, long found, long wanted) {
     failed = 1;
 }
 
+static void same_record(const char *what, struct berth_summary found, int open, int struck, int rules) {
+    same(what, found.open, open);
+    same(what, found.struck, struck);
+    same(what, found.rules, rules);
+}
+
+/* A board, and bytes behind it that nobody may write. */
+struct fenced {
+    struct berth_board board;
+    uint8_t behind[64];
+};
+
+static void raise_fence(struct fenced *fenced) {
+    memset(fenced->behind, 0xa5, sizeof fenced->behind);
+}
+
+static void same_fence(const struct fenced *fenced) {
+    for (int i = 0; i < 64; i++)
+        same("byte behind a board", fenced->behind[i], 0xa5);
+}
+
 /* A board that was cleared is a fresh one, whatever it held. */
 static void clear(struct berth_board *board) {
     struct berth_value fresh = berth_fresh();
@@ -24,6 +45,8 @@ static void clear(struct berth_board *board) {
         same("fresh killer byte", board->killers[i], 255);
     for (int i = 0; i < BERTH_SLOTS; i++)
         same("fresh slot byte", board->slots[i], 254);
+    for (int i = 0; i < BERTH_RECORDS; i++)
+        same_record("fresh record", board->table[i], 0, 0, 0);
     same("open slots without a board", berth_board_open_slots(board, 0).number, BERTH_NO_BOARD);
 }
 
@@ -35,6 +58,8 @@ static void make_board(struct berth_board *board) {
     same("row", berth_board_row(board, row_0, 2).number, 0);
     same("row", berth_board_row(board, row_1, 2).number, 0);
     same("put", berth_board_put(board).number, 0);
+    same_record("record of call 0 under rule 0", berth_board_summary(board, 0), 2, 0, 1);
+    same_record("record of call 1 under rule 0", berth_board_summary(board, 1), 2, 0, 1);
     same("head", berth_board_head(board, 5, calls, 1).number, 0);
     same("row", berth_board_row(board, row_0, 1).number, 0);
     struct berth_command_reply reply = berth_board_put(board);
@@ -42,6 +67,24 @@ static void make_board(struct berth_board *board) {
     same("S", (long)reply.struck, 2);
     same("R", (long)reply.reopened, 0);
     same("T", (long)reply.touched, 2);
+}
+
+/* The table of that board. */
+static void same_table(const char *what, const struct berth_summary *table) {
+    same_record(what, table[0], 1, 1, 2);
+    same_record(what, table[1], 1, 1, 1);
+    for (int call = 2; call < BERTH_RECORDS; call++)
+        same_record(what, table[call], 0, 0, 0);
+}
+
+/* The board's records, and of a number that no call has. */
+static void summarise(const struct berth_board *board) {
+    same_table("table", board->table);
+    same_record("record of call 0", berth_board_summary(board, 0), 1, 1, 2);
+    same_record("record of call 1", berth_board_summary(board, 1), 1, 1, 1);
+    same_record("record of call 31", berth_board_summary(board, 31), 0, 0, 0);
+    same_record("record 32", berth_board_summary(board, 32), 0, 0, 0);
+    same_record("record 255", berth_board_summary(board, 255), 0, 0, 0);
 }
 
 /* The bytes that are made are these. */
@@ -91,8 +134,8 @@ static void ask(const struct berth_board *board) {
 static void refuse(struct berth_board *board) {
     static const uint8_t lift[2] = {5, 5}, counts[33] = {1};
     struct berth_value before = board->value;
-    struct berth_command_reply reply =
-        berth_command(&board->value, lift, 2, board->rows, BERTH_ROWS - 1, board->killers, BERTH_KILLERS, board->slots, BERTH_SLOTS);
+    struct berth_command_reply reply = berth_command(&board->value, lift, 2, board->rows, BERTH_ROWS - 1, board->killers, BERTH_KILLERS, board->slots,
+                                                     BERTH_SLOTS, board->table, BERTH_RECORDS);
     same("short rows", reply.number, BERTH_BUFFER_LENGTH);
     same("value", memcmp(&board->value, &before, sizeof before), 0);
     same("body cut short", berth_board_command(board, lift, 1).number, BERTH_BODY_LENGTH);
@@ -104,34 +147,136 @@ static void refuse(struct berth_board *board) {
     same("put without a draft", berth_board_put(board).number, BERTH_NO_DRAFT);
 }
 
+/* A table between bytes that nobody may write, with room for a record more. */
+struct guarded {
+    uint8_t before[64];
+    struct berth_summary table[BERTH_RECORDS + 1];
+    uint8_t behind[64];
+};
+
+static void same_guard(const char *what, const struct guarded *guarded) {
+    for (int i = 0; i < 64; i++) {
+        same(what, guarded->before[i], 0xa5);
+        same(what, guarded->behind[i], 0xa5);
+    }
+    same_record(what, guarded->table[BERTH_RECORDS], 0xa5, 0xa5, 0xa5);
+}
+
+/* A table of another length is refused just after a buffer of one, and before the command is read. Nothing changes then: not the board, and not what is lent. */
+static void refuse_table(struct berth_board *board) {
+    static const uint8_t lift[2] = {5, 5}, long_file[BERTH_FILE + 1];
+    static const size_t lengths[] = {31, 33, 0};
+    static struct berth_board before;
+    struct guarded lent, all;
+    memset(&all, 0xa5, sizeof all);
+    lent = all;
+    before = *board;
+    for (int i = 0; i < 3; i++) {
+        size_t n = lengths[i];
+        struct berth_command_reply reply = berth_command(&board->value, lift, 2, BERTH_BUFFERS(board), lent.table, n);
+        same("table of another length", reply.number, BERTH_TABLE_LENGTH);
+        same("S, R and T", (long)(reply.struck + reply.reopened + reply.touched), 0);
+        same("table before the kind", berth_command(&board->value, lift, 0, BERTH_BUFFERS(board), lent.table, n).number, BERTH_TABLE_LENGTH);
+        same("table before the body", berth_command(&board->value, lift, 1, BERTH_BUFFERS(board), lent.table, n).number, BERTH_TABLE_LENGTH);
+        reply = berth_command(&board->value, lift, 2, board->rows, BERTH_ROWS, board->killers, BERTH_KILLERS, board->slots, 0, lent.table, n);
+        same("buffer before the table", reply.number, BERTH_BUFFER_LENGTH);
+        same("table of a file", berth_replay(&board->value, lift, 2, BERTH_BUFFERS(board), lent.table, n).number, BERTH_TABLE_LENGTH);
+        same("table before the file", berth_replay(&board->value, long_file, sizeof long_file, BERTH_BUFFERS(board), lent.table, n).number, BERTH_TABLE_LENGTH);
+        same("table of a fresh board", berth_fresh_board(&board->value, BERTH_BUFFERS(board), lent.table, n).number, BERTH_TABLE_LENGTH);
+        same("table that was lent", memcmp(&lent, &all, sizeof all), 0);
+        same("board", memcmp(board, &before, sizeof before), 0);
+    }
+}
+
+/* What the table held has no effect: questions leave it, a refused command too, and an accepted one makes it current. */
+static void alter_table(struct berth_board *board) {
+    static const uint8_t head[7] = {2, 9, 1, 1, 255, 255, 255}, put_by_mistake[2] = {4, 4};
+    struct guarded lent, all;
+    memset(&all, 0xa5, sizeof all);
+    lent = all;
+    memset(board->table, 0xa5, sizeof board->table);
+    ask(board);
+    same("table after questions", memcmp(board->table, all.table, sizeof board->table), 0);
+    same("refused", berth_command(&board->value, put_by_mistake, 2, BERTH_BUFFERS(board), lent.table, BERTH_RECORDS).number, BERTH_BODY_LENGTH);
+    same("table after a refusal", memcmp(&lent, &all, sizeof all), 0);
+    same("head", berth_command(&board->value, head, 7, BERTH_BUFFERS(board), lent.table, BERTH_RECORDS).number, 0);
+    same_table("table after a head", lent.table);
+    same_guard("beside the table", &lent);
+    same("head", berth_board_command(board, head, 7).number, 0);
+    same_table("board's table after a head", board->table);
+    memset(board->table, 0xa5, sizeof board->table);
+    same("row", berth_board_row(board, (const uint8_t[]){1}, 1).number, 0);
+    same_table("board's table after a row", board->table);
+    same("put", berth_board_put(board).number, 0);
+    same_record("record of call 0 under rule 9", berth_board_summary(board, 0), 0, 2, 2);
+    same_record("record of call 1 under rule 9", berth_board_summary(board, 1), 0, 2, 2);
+    same("lift", berth_board_lift(board, 9).number, 0);
+    same_table("board's table after a lift", board->table);
+}
+
+/* Whatever value and buffers hold, a command returns and writes nothing beside the table; refused, it writes nothing at all. */
+static void alter_board(void) {
+    static const uint8_t bytes[] = {0, 1, 3, 4, 31, 32, 63, 64, 200, 254, 255};
+    static struct berth_board board, before;
+    struct berth_command_bytes made[] = {
+        berth_make_board((const uint8_t[]){2, 2}, 2), berth_make_head(0, (const uint8_t[]){0}, 1), berth_make_row((const uint8_t[]){1}, 1), berth_make_put(),
+        berth_make_lift(0),
+    };
+    struct guarded lent, was;
+    for (size_t i = 0; i < sizeof bytes; i++)
+        for (size_t k = 0; k < sizeof made / sizeof *made; k++) {
+            memset(&board, bytes[i], sizeof board);
+            memset(&was, 0xa5, sizeof was);
+            lent = was;
+            before = board;
+            uint8_t number = berth_command(&board.value, made[k].bytes, made[k].length, BERTH_BUFFERS(&board), lent.table, BERTH_RECORDS).number;
+            same_guard("beside the table of an altered board", &lent);
+            same("an altered board's own table", memcmp(board.table, before.table, sizeof board.table), 0);
+            if (number != 0) {
+                same("an altered board that refuses", memcmp(&board, &before, sizeof board), 0);
+                same("its table", memcmp(&lent, &was, sizeof was), 0);
+            }
+            if (k == 0) {
+                same("a new board on altered memory", number, 0);
+                same_record("its record of call 1", lent.table[1], 2, 0, 0);
+                same_record("its record of call 2", lent.table[2], 0, 0, 0);
+            }
+        }
+}
+
 /* A file leaves what its commands leave one by one, up to one that cannot be read; one that is too long changes nothing. */
 static void replay(struct berth_board *board) {
     static const uint8_t lift_without_board[] = {5, 9, 4, 6};
     static uint8_t file[BERTH_FILE + 1];
-    static struct berth_board other;
+    static struct fenced fenced;
+    struct berth_board *other = &fenced.board;
     struct berth_command_bytes made[] = {
         berth_make_lift(9), berth_make_board((const uint8_t[]){2, 2}, 2), berth_make_head(0, (const uint8_t[]){0}, 1), berth_make_row((const uint8_t[]){1}, 1),
         berth_make_put(),
     };
     size_t length = 0;
-    same("clear", berth_board_clear(&other), 1);
+    raise_fence(&fenced);
+    same("clear", berth_board_clear(other), 1);
     for (size_t i = 0; i < sizeof made / sizeof *made; i++) {
         memcpy(file + length, made[i].bytes, made[i].length);
         length += made[i].length;
-        berth_board_obey(&other, made[i]);
+        berth_board_obey(other, made[i]);
     }
     struct berth_replay_reply reply = berth_board_replay(board, file, length);
     same("commands run", (long)reply.ran, 5);
     same("end of the file", reply.number, 0);
-    same("board after the file", memcmp(board, &other, sizeof other), 0);
+    same("board after the file", memcmp(board, other, sizeof *other), 0);
+    same_record("record after the file", board->table[0], 1, 1, 1);
     same("file that is too long", berth_board_replay(board, file, sizeof file).number, BERTH_FILE_LENGTH);
-    same("board after it", memcmp(board, &other, sizeof other), 0);
+    same("board after it", memcmp(board, other, sizeof *other), 0);
     reply = berth_board_replay(board, lift_without_board, 4);
     same("commands before an unknown kind", (long)reply.ran, 2);
     same("unknown kind", reply.number, BERTH_UNKNOWN_KIND);
-    same("clear", berth_board_clear(&other), 1);
-    same("board after refusals alone", memcmp(board, &other, sizeof other), 0);
-    same("short rows", berth_fresh_board(&board->value, board->rows, 1, board->killers, BERTH_KILLERS, board->slots, BERTH_SLOTS).number, BERTH_BUFFER_LENGTH);
+    same("clear", berth_board_clear(other), 1);
+    same("board after refusals alone", memcmp(board, other, sizeof *other), 0);
+    reply = berth_fresh_board(&board->value, board->rows, 1, board->killers, BERTH_KILLERS, board->slots, BERTH_SLOTS, board->table, BERTH_RECORDS);
+    same("short rows", reply.number, BERTH_BUFFER_LENGTH);
+    same_fence(&fenced);
 }
 
 /* The sizes that the header says, and the library's own. */
@@ -139,7 +284,8 @@ static void measure(void) {
     same("version", (long)berth_version(), BERTH_VERSION);
     same("value's size", (long)berth_value_size(), BERTH_VALUE_SIZE);
     same("header fits", berth_header_fits(), 1);
-    same("a board's size", (long)sizeof(struct berth_board), 22183);
+    same("a board's size", (long)sizeof(struct berth_board), 22279);
+    same("a record's size", (long)sizeof(struct berth_summary), 3);
     same("size of a command's reply", (long)sizeof(struct berth_command_reply), 32);
     same("size of a replay's reply", (long)sizeof(struct berth_replay_reply), 16);
 }
@@ -151,18 +297,25 @@ static void print_texts(void) {
 }
 
 int main(int words, char **word) {
-    static struct berth_board board;
+    static struct fenced fenced;
+    struct berth_board *board = &fenced.board;
     if (words > 1 && strcmp(word[1], "texts") == 0) {
         print_texts();
         return 0;
     }
     measure();
     build();
-    clear(&board);
-    make_board(&board);
-    ask(&board);
-    refuse(&board);
-    replay(&board);
+    raise_fence(&fenced);
+    clear(board);
+    make_board(board);
+    summarise(board);
+    ask(board);
+    refuse(board);
+    refuse_table(board);
+    alter_table(board);
+    alter_board();
+    replay(board);
+    same_fence(&fenced);
     printf("header: %s\n", failed ? "FAILED" : "every function answers from C as it should");
     return failed;
 }

@@ -2,22 +2,44 @@
 //! top. With the word `texts` it prints the refusals and their texts; berth.h has to say the same.
 mod berth;
 
-use berth::{lent, Board, Refusal, Replay, Row, Slot};
+use berth::{lent, Board, Refusal, Replay, Row, Slot, Summary, KILLERS, RECORDS, ROWS, SLOTS};
+
+fn record(open: u8, struck: u8, rules: u8) -> Summary {
+    Summary { open, struck, rules }
+}
+
+/// A table with these records first, and zeros behind them.
+fn table(first: &[Summary]) -> [Summary; RECORDS] {
+    std::array::from_fn(|call| first.get(call).copied().unwrap_or_default())
+}
 
 /// Two calls of two slots. Rule 0 joins equal slots, and rule 5 leaves slot 0 of call 0.
 fn board() -> Board {
     let mut board = Board::new();
     assert_eq!(board.open_slots(0), Err(Refusal::NoBoard));
+    assert_eq!(*board.summaries(), table(&[]));
     board.start(&[2, 2]).unwrap();
+    assert_eq!(*board.summaries(), table(&[record(2, 0, 0); 2]));
     board.head(0, &[0, 1]).unwrap();
     board.row(&[0, 0]).unwrap();
     board.row(&[1, 1]).unwrap();
     board.put().unwrap();
+    assert_eq!(*board.summaries(), table(&[record(2, 0, 1); 2]));
     board.head(5, &[0]).unwrap();
     board.row(&[0]).unwrap();
     let report = board.put().unwrap();
     assert_eq!((report.struck, report.reopened, report.touched), (2, 0, 2));
     board
+}
+
+/// The records of that board, by number and all of them.
+fn summarise(board: &Board) {
+    assert_eq!(*board.summaries(), table(&[record(1, 1, 2), record(1, 1, 1)]));
+    assert_eq!(
+        [0, 1, 2, 31].map(|call| board.summary(call)),
+        [record(1, 1, 2), record(1, 1, 1), record(0, 0, 0), record(0, 0, 0)]
+    );
+    assert_eq!([32, 255].map(|call| board.summary(call)), [Summary::default(); 2]);
 }
 
 fn ask(board: &Board) {
@@ -48,28 +70,132 @@ fn refuse(board: &mut Board) {
     assert_eq!(board.command(&[]), Err(Refusal::UnknownKind));
     let before = *board.memory().value;
     let mut value = before;
-    let answer = lent::command(&mut value, &[5, 5], &mut [], &mut [], &mut []);
+    let answer = lent::command(&mut value, &[5, 5], &mut [], &mut [], &mut [], &mut []);
     assert_eq!((answer, value), (Err(Refusal::BufferLength), before));
+    assert_eq!(*board.summaries(), table(&[record(1, 1, 2), record(1, 1, 1)]));
+}
+
+/// A board's memory, lent part by part, with a table of its own between two records that nobody may write.
+struct Parts {
+    value: berth::Value,
+    rows: Vec<u8>,
+    killers: Vec<u8>,
+    slots: Vec<u8>,
+    fenced: Vec<Summary>,
+}
+
+const FENCE: Summary = Summary { open: 0xa5, struck: 0xa5, rules: 0xa5 };
+
+impl Parts {
+    fn of(board: &Board, table: &[Summary]) -> Self {
+        let memory = board.memory();
+        let (rows, killers, slots) = (memory.rows.to_vec(), memory.killers.to_vec(), memory.slots.to_vec());
+        Parts { value: *memory.value, rows, killers, slots, fenced: [&[FENCE], table, &[FENCE]].concat() }
+    }
+
+    /// The lent table; the fence around it stands.
+    fn table(&self) -> &[Summary] {
+        let [FENCE, table @ .., FENCE] = &self.fenced[..] else { panic!("something is written beside the table") };
+        table
+    }
+
+    fn command(&mut self, bytes: &[u8]) -> u8 {
+        let Parts { value, rows, killers, slots, fenced } = self;
+        let [_, table @ .., _] = &mut fenced[..] else { unreachable!() };
+        lent::command(value, bytes, rows, killers, slots, table).map_or_else(Refusal::number, |_| 0)
+    }
+
+    fn replay(&mut self, file: &[u8]) -> u8 {
+        let Parts { value, rows, killers, slots, fenced } = self;
+        let [_, table @ .., _] = &mut fenced[..] else { unreachable!() };
+        lent::replay(value, file, rows, killers, slots, table).map_or_else(Refusal::number, |_| 0)
+    }
+
+    fn fresh_board(&mut self) -> u8 {
+        let Parts { value, rows, killers, slots, fenced } = self;
+        let [_, table @ .., _] = &mut fenced[..] else { unreachable!() };
+        lent::fresh_board(value, rows, killers, slots, table).map_or_else(Refusal::number, |_| 0)
+    }
+
+    /// The value and the buffers are the board's.
+    fn same(&self, board: &Board) -> bool {
+        let memory = board.memory();
+        self.value == *memory.value
+            && self.rows == memory.rows
+            && self.killers == memory.killers
+            && self.slots == memory.slots
+    }
+}
+
+/// A table of another length is refused just after a buffer of one, and before the command or the file is looked at. Nothing changes then.
+fn refuse_table(board: &Board) {
+    for length in [31, 33, 0] {
+        let lent = vec![record(7, 8, 9); length];
+        let mut parts = Parts::of(board, &lent);
+        assert_eq!([&[5, 5][..], &[], &[5], &[9]].map(|bytes| parts.command(bytes)), [22; 4]);
+        assert_eq!([&[5, 5][..], &[4; berth::FILE + 1]].map(|file| parts.replay(file)), [22; 2]);
+        assert_eq!(parts.fresh_board(), 22);
+        assert!(parts.same(board) && parts.table() == lent);
+        parts.slots.push(255);
+        assert_eq!((parts.command(&[5, 5]), parts.replay(&[]), parts.fresh_board()), (1, 1, 1));
+        parts.slots.pop();
+        assert!(parts.same(board) && parts.table() == lent);
+    }
+}
+
+/// What the table held has no effect: a refused command leaves it, and an accepted one makes it current, on altered memory a new board's too.
+fn alter(board: &Board) {
+    let lent = [record(255, 254, 7); RECORDS];
+    let mut parts = Parts::of(board, &lent);
+    assert_eq!(parts.command(&[4]), 12);
+    assert!(parts.same(board) && parts.table() == lent);
+    assert_eq!(parts.command(&[2, 9, 1, 1, 255, 255, 255]), 0);
+    assert_eq!(parts.table(), board.summaries());
+    parts.fenced[1..=RECORDS].copy_from_slice(&lent);
+    assert_eq!(parts.command(&[3, 1, 255, 255, 255]), 0);
+    assert_eq!(parts.table(), board.summaries());
+    assert_eq!(parts.command(&[4]), 0);
+    assert_eq!(parts.table(), table(&[record(0, 2, 2); 2]));
+    assert_eq!(parts.command(&[5, 9]), 0);
+    assert_eq!(parts.table(), board.summaries());
+    let file = [&[1, 3, 1][..], &[0; 30], &[2, 9, 1, 0, 255, 255, 255, 4]].concat();
+    let mut parts = Parts::of(board, &lent);
+    assert_eq!(parts.replay(&file), 0);
+    assert_eq!(parts.table(), table(&[record(0, 3, 1), record(1, 0, 0)]));
+    for byte in [0, 3, 31, 63, 64, 200, 254, 255] {
+        let (rows, killers, slots) = (vec![byte; ROWS], vec![byte; KILLERS], vec![byte; SLOTS]);
+        let mut parts = Parts { rows, killers, slots, ..Parts::of(board, &lent) };
+        let _ = [&[4][..], &[5, 5], &[5, 0]].map(|bytes| parts.command(bytes));
+        assert_eq!(parts.command(&file[..33]), 0);
+        assert_eq!(parts.table(), table(&[record(3, 0, 0), record(1, 0, 0)]));
+    }
+    assert_eq!(parts.fresh_board(), 0);
+    assert!(parts.same(&Board::new()) && parts.table() == table(&[]));
 }
 
 /// A file leaves what its commands leave one by one, up to one that cannot be read; one that is too long changes nothing.
 fn replay(board: &mut Board) {
-    let commands: [&[u8]; 5] = [&[5, 9], &[&[1, 2, 2][..], &[0; 30]].concat(), &[2, 0, 1, 0, 255, 255, 255], &[3, 1, 255, 255, 255], &[4]];
+    let commands: [&[u8]; 5] =
+        [&[5, 9], &[&[1, 2, 2][..], &[0; 30]].concat(), &[2, 0, 1, 0, 255, 255, 255], &[3, 1, 255, 255, 255], &[4]];
     let mut other = Board::new();
     for bytes in commands {
         let _ = other.command(bytes);
     }
     let file = commands.concat();
     assert_eq!(board.replay(&file), Ok(Replay { ran: 5, end: None }));
-    let same = |a: &Board, b: &Board| a.memory().value == b.memory().value && a.memory().slots == b.memory().slots;
+    let same = |a: &Board, b: &Board| {
+        let (x, y) = (a.memory(), b.memory());
+        x.value == y.value && x.slots == y.slots && a.summaries() == b.summaries()
+    };
     assert!(same(board, &other));
+    assert_eq!(*board.summaries(), table(&[record(1, 1, 1), record(2, 0, 0)]));
     assert_eq!(board.replay(&[4; berth::FILE + 1]), Err(Refusal::FileLength));
     assert!(same(board, &other));
     assert_eq!(board.replay(&[&file[..], &[5]].concat()), Ok(Replay { ran: 5, end: Some(Refusal::BodyLength) }));
     assert!(same(board, &other));
     let mut value = *board.memory().value;
-    assert_eq!(lent::replay(&mut value, &file, &mut [], &mut [], &mut []), Err(Refusal::BufferLength));
-    assert_eq!(lent::fresh_board(&mut value, &mut [], &mut [], &mut []), Err(Refusal::BufferLength));
+    assert_eq!(lent::replay(&mut value, &file, &mut [], &mut [], &mut [], &mut []), Err(Refusal::BufferLength));
+    assert_eq!(lent::fresh_board(&mut value, &mut [], &mut [], &mut [], &mut []), Err(Refusal::BufferLength));
     assert!(value == *board.memory().value);
 }
 
@@ -77,7 +203,7 @@ fn name() {
     for number in 0..=255 {
         let refusal = Refusal::from_number(number);
         assert_eq!(refusal.number(), number);
-        assert_eq!(matches!(refusal, Refusal::Other(_)), !(1..=21).contains(&number), "{refusal:?}");
+        assert_eq!(matches!(refusal, Refusal::Other(_)), !(1..=22).contains(&number), "{refusal:?}");
     }
     assert_eq!(Refusal::NotInForce.to_string(), "refused 17: no rule of this number is in force");
     assert_eq!(Refusal::Other(99).to_string(), "refused 99: no refusal has this number");
@@ -90,8 +216,11 @@ fn main() {
     }
     assert_eq!((lent::library_version(), lent::library_fits()), (berth::VERSION, true));
     let mut board = board();
+    summarise(&board);
     ask(&board);
     refuse(&mut board);
+    refuse_table(&board);
+    alter(&board);
     replay(&mut board);
     name();
     println!("wrapper: every function answers from Rust as it should");

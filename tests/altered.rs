@@ -1,10 +1,12 @@
-//! Commands and questions on memory with any contents and of any lengths: every call returns, nothing outside the buffers changes, and a refusal changes
-//! nothing. (host.rs asserts it of each command.)
+//! Commands and questions on memory with any contents and of any lengths: every call returns, nothing outside the buffers and the table changes, and a refusal
+//! changes nothing. (host.rs asserts it of each command.) A new board has its table then, too.
 
-use crate::berth::Value;
+use crate::berth::{Summary, Value};
+use crate::filter::all_slots;
 use crate::host::{number_of, Fenced, Host};
-use crate::ledger::{LAST_KIND, LENGTHS, LIFT, PUT};
+use crate::ledger::{Ledger, BOARD, LAST_KIND, LENGTHS, LIFT, PUT};
 use crate::random::Random;
+use crate::summary::{self, table_of};
 use crate::writer::{any_command, board, SIZES};
 
 const HOSTS: u64 = 6000;
@@ -39,16 +41,27 @@ fn fill_value(random: &mut Random, value: &mut Value) {
     }
 }
 
-/// Mostly of its length.
-fn some_buffer(random: &mut Random, right: usize) -> Fenced {
-    let length = match random.below(20) {
+/// Mostly the right one.
+fn some_length(random: &mut Random, right: usize) -> usize {
+    match random.below(20) {
         0 => 0,
         1 => right - 1,
         2 => right + 1,
         3 => random.below(2 * right),
         _ => right,
-    };
+    }
+}
+
+fn some_buffer(random: &mut Random, right: usize) -> Fenced<u8> {
+    let length = some_length(random, right);
     Fenced::new(&some_bytes(random, length))
+}
+
+fn some_table(random: &mut Random) -> Fenced<Summary> {
+    let length = some_length(random, LENGTHS.table);
+    let bytes = some_bytes(random, 3 * length);
+    let record = |part: &[u8]| Summary { open: part[0], struck: part[1], rules: part[2] };
+    Fenced::new(&bytes.chunks(3).map(record).collect::<Vec<_>>())
 }
 
 /// Any contents, or what a list left, with some bytes altered.
@@ -56,12 +69,14 @@ pub fn some_host(random: &mut Random, left: &[Host]) -> Host {
     let mut host = random.choose(left).clone();
     if random.percent(50) {
         fill_value(random, &mut host.value);
-        host.buffers = std::array::from_fn(|i| some_buffer(random, LENGTHS[i]));
+        host.buffers = std::array::from_fn(|i| some_buffer(random, LENGTHS.buffers[i]));
+        host.table = some_table(random);
         return host;
     }
+    summary::alter(random, host.table.inside_mut());
     for _ in 0..random.between((1, 40)) {
-        let part = match random.below(LENGTHS.len() + 2) {
-            i if i < LENGTHS.len() => host.buffers[i].inside_mut(),
+        let part = match random.below(host.buffers.len() + 2) {
+            i if i < host.buffers.len() => host.buffers[i].inside_mut(),
             _ => value_bytes(&mut host.value),
         };
         part[random.below(part.len())] = some_bytes(random, 1)[0];
@@ -96,6 +111,15 @@ fn ask(random: &mut Random, host: &Host) {
     assert!(*host == before, "a question changes something");
 }
 
+/// A new board is the same on any memory, so its table is current.
+fn check_new_board(host: &Host, bytes: &[u8]) {
+    let mut ledger = Ledger::default();
+    if bytes[0] == BOARD {
+        ledger.obey(bytes);
+        assert_eq!(host.table.inside(), table_of(&ledger, &all_slots(&ledger)), "the summary table of a new board");
+    }
+}
+
 pub fn run(left: &[Host]) {
     let mut accepted = [0; LAST_KIND as usize + 1];
     for seed in 0..HOSTS {
@@ -107,6 +131,7 @@ pub fn run(left: &[Host]) {
             let bytes = some_command(random);
             if host.command(&bytes).0.is_ok() {
                 accepted[bytes[0] as usize] += 1;
+                check_new_board(&host, &bytes);
             }
             ask(random, &host);
         }

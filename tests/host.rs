@@ -1,20 +1,34 @@
-//! A host's value and lent buffers, each between bytes that nobody may write. What the library promises of any contents is asserted of every command.
+//! A host's value, lent buffers and summary table, each between bytes that nobody may write. What the library promises of any contents is asserted of every
+//! command.
 
 use crate::berth::lent::{self, Memory};
-use crate::berth::{Answer, Draft, Heads, Refusal, Replay, Report, Value};
+use crate::berth::{Answer, Draft, Heads, Refusal, Replay, Report, Summary, Value};
 use crate::ledger::{Ledger, Lengths, LENGTHS};
 
 const FENCE: usize = 1024;
 const FENCE_BYTE: u8 = 0xa5;
 
-#[derive(Clone, PartialEq)]
-pub struct Fenced {
-    all: Vec<u8>,
+/// What buffers and tables are made of.
+pub trait Item: Copy + PartialEq {
+    const FENCE_ITEM: Self;
 }
 
-impl Fenced {
-    pub fn new(contents: &[u8]) -> Self {
-        let fence = [FENCE_BYTE; FENCE];
+impl Item for u8 {
+    const FENCE_ITEM: u8 = FENCE_BYTE;
+}
+
+impl Item for Summary {
+    const FENCE_ITEM: Summary = Summary { open: FENCE_BYTE, struck: FENCE_BYTE, rules: FENCE_BYTE };
+}
+
+#[derive(Clone, PartialEq)]
+pub struct Fenced<T> {
+    all: Vec<T>,
+}
+
+impl<T: Item> Fenced<T> {
+    pub fn new(contents: &[T]) -> Self {
+        let fence = [T::FENCE_ITEM; FENCE];
         Fenced { all: [&fence, contents, &fence].concat() }
     }
 
@@ -22,18 +36,18 @@ impl Fenced {
         self.all.len() - FENCE
     }
 
-    pub fn inside(&self) -> &[u8] {
+    pub fn inside(&self) -> &[T] {
         &self.all[FENCE..self.end()]
     }
 
-    pub fn inside_mut(&mut self) -> &mut [u8] {
+    pub fn inside_mut(&mut self) -> &mut [T] {
         let end = self.end();
         &mut self.all[FENCE..end]
     }
 
     fn stands(&self) -> bool {
         let outside = [&self.all[..FENCE], &self.all[self.end()..]];
-        outside.iter().all(|part| **part == [FENCE_BYTE; FENCE])
+        outside.iter().all(|part| **part == [T::FENCE_ITEM; FENCE])
     }
 }
 
@@ -45,7 +59,7 @@ struct FencedValue {
     behind: [u8; FENCE],
 }
 
-fn lend<T>(value: &mut Value, call: impl FnOnce(&mut Value) -> T) -> T {
+fn lend_value<T>(value: &mut Value, call: impl FnOnce(&mut Value) -> T) -> T {
     let fence = [FENCE_BYTE; FENCE];
     let mut fenced = FencedValue { before: fence, value: *value, behind: fence };
     let answer = call(&mut fenced.value);
@@ -58,7 +72,8 @@ fn lend<T>(value: &mut Value, call: impl FnOnce(&mut Value) -> T) -> T {
 pub struct Host {
     pub value: Value,
     /// rows, killers, slots
-    pub buffers: [Fenced; 3],
+    pub buffers: [Fenced<u8>; 3],
+    pub table: Fenced<Summary>,
 }
 
 /// The number in the refusal table; 0 of an answer.
@@ -85,7 +100,8 @@ fn heads_of(ledger: &Ledger) -> Heads {
 }
 
 fn draft_of(ledger: &Ledger) -> Draft {
-    let mut draft = Draft { number: 255, rule: crate::berth::Rule { arity: 0, scope: [255; 4], length: 0, rows: [255; 256] } };
+    let mut draft =
+        Draft { number: 255, rule: crate::berth::Rule { arity: 0, scope: [255; 4], length: 0, rows: [255; 256] } };
     if let Some((number, rule)) = &ledger.draft {
         let rows = rule.rows.as_flattened();
         draft.number = *number;
@@ -100,45 +116,48 @@ fn draft_of(ledger: &Ledger) -> Draft {
 impl Host {
     pub fn fresh() -> Self {
         let fill = [255, 255, 254];
-        let buffer = |i: usize| Fenced::new(&vec![fill[i]; LENGTHS[i]]);
-        Host { value: lent::fresh(), buffers: std::array::from_fn(buffer) }
+        let buffer = |i: usize| Fenced::new(&vec![fill[i]; LENGTHS.buffers[i]]);
+        let table = Fenced::new(&vec![Summary::default(); LENGTHS.table]);
+        Host { value: lent::fresh(), buffers: std::array::from_fn(buffer), table }
     }
 
     pub fn lengths(&self) -> Lengths {
-        std::array::from_fn(|i| self.buffers[i].inside().len())
+        Lengths { buffers: std::array::from_fn(|i| self.buffers[i].inside().len()), table: self.table.inside().len() }
     }
 
-    /// The answer, and all as it was before. Nothing outside the buffers changes, and where the command is refused nothing at all does.
+    /// What a call answers that is lent all of it. Nothing outside changes.
+    fn lend<T>(&mut self, call: impl FnOnce(&mut Value, [&mut [u8]; 3], &mut [Summary]) -> T) -> T {
+        let (buffers, table) = (self.buffers.each_mut().map(Fenced::inside_mut), self.table.inside_mut());
+        let answer = lend_value(&mut self.value, |value| call(value, buffers, table));
+        assert!(self.buffers.iter().all(Fenced::stands), "something is written outside the buffers");
+        assert!(self.table.stands(), "something is written outside the summary table");
+        answer
+    }
+
+    /// The answer, and all as it was before. Where the command is refused nothing changes.
     pub fn command(&mut self, bytes: &[u8]) -> (Answer<Report>, Host) {
         let before = self.clone();
         let given = Fenced::new(bytes);
-        let [rows, killers, slots] = &mut self.buffers;
-        let (rows, killers, slots) = (rows.inside_mut(), killers.inside_mut(), slots.inside_mut());
-        let answer = lend(&mut self.value, |value| lent::command(value, given.inside(), rows, killers, slots));
-        assert!(self.buffers.iter().all(Fenced::stands), "{bytes:?} writes outside the buffers");
+        let answer = self.lend(|value, [rows, killers, slots], table| {
+            lent::command(value, given.inside(), rows, killers, slots, table)
+        });
         assert!(given == Fenced::new(bytes), "{bytes:?} is written to");
         assert!(answer.is_ok() || *self == before, "{bytes:?} is refused, and changes something");
         (answer, before)
     }
 
-    /// What became of a file of commands. Nothing outside the buffers changes, nor does the file.
+    /// What became of a file of commands. The file does not change.
     pub fn replay(&mut self, file: &[u8]) -> Answer<Replay> {
         let given = Fenced::new(file);
-        let [rows, killers, slots] = &mut self.buffers;
-        let (rows, killers, slots) = (rows.inside_mut(), killers.inside_mut(), slots.inside_mut());
-        let answer = lend(&mut self.value, |value| lent::replay(value, given.inside(), rows, killers, slots));
-        assert!(self.buffers.iter().all(Fenced::stands), "a file of {} bytes writes outside the buffers", file.len());
+        let answer = self.lend(|value, [rows, killers, slots], table| {
+            lent::replay(value, given.inside(), rows, killers, slots, table)
+        });
         assert!(given == Fenced::new(file), "a file of {} bytes is written to", file.len());
         answer
     }
 
-    /// Nothing outside the buffers changes.
     pub fn fresh_board(&mut self) -> Answer<()> {
-        let [rows, killers, slots] = &mut self.buffers;
-        let (rows, killers, slots) = (rows.inside_mut(), killers.inside_mut(), slots.inside_mut());
-        let answer = lend(&mut self.value, |value| lent::fresh_board(value, rows, killers, slots));
-        assert!(self.buffers.iter().all(Fenced::stands), "a fresh board writes outside the buffers");
-        answer
+        self.lend(|value, [rows, killers, slots], table| lent::fresh_board(value, rows, killers, slots, table))
     }
 
     pub fn memory(&self) -> Memory<'_> {

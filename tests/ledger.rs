@@ -12,11 +12,30 @@ pub const LIFT: u8 = 5;
 pub const LAST_KIND: u8 = LIFT;
 
 /// Refusals have the numbers up to this one.
-pub const LAST_REFUSAL: usize = 21;
+pub const LAST_REFUSAL: usize = 22;
 
-/// The lengths of the lent buffers: rows, killers, slots.
-pub type Lengths = [usize; 3];
-pub const LENGTHS: Lengths = [64 * 64 * 4, 64 * 64, 32 * 32];
+/// The lengths of what is lent with a command.
+#[derive(Clone, Copy)]
+pub struct Lengths {
+    /// rows, killers, slots
+    pub buffers: [usize; 3],
+    /// the summary table's, in records
+    pub table: usize,
+}
+
+pub const LENGTHS: Lengths = Lengths { buffers: [64 * 64 * 4, 64 * 64, 32 * 32], table: 32 };
+
+impl Lengths {
+    /// The refusal of a question that is lent these buffers: 1 or 0.
+    pub fn question_refusal(self) -> u8 {
+        first(&[(1, self.buffers != LENGTHS.buffers)])
+    }
+
+    /// The refusal of a command or a file that is lent all of it: 1, 22 or 0.
+    pub fn refusal(self) -> u8 {
+        first(&[(1, self.buffers != LENGTHS.buffers), (22, self.table != LENGTHS.table)])
+    }
+}
 
 /// How many bytes follow the byte of a kind; none where there is no such kind.
 pub fn body_length(kind: u8) -> Option<usize> {
@@ -84,9 +103,9 @@ impl Ledger {
         self.counts.get(call as usize).copied().unwrap_or(0)
     }
 
-    /// The refusal of a command by its bytes and the lengths of the buffers lent with it, or 0. Bytes left over count as a body of another length.
+    /// The refusal of a command by its bytes and the lengths lent, or 0. Bytes left over count as a body of another length.
     pub fn refusal(&self, lent: Lengths, bytes: &[u8]) -> u8 {
-        let formal = first(&[(1, lent != LENGTHS), (read_refusal(bytes), read_refusal(bytes) != 0)]);
+        let formal = first(&[(lent.refusal(), lent.refusal() != 0), (read_refusal(bytes), read_refusal(bytes) != 0)]);
         if formal != 0 {
             return formal;
         }

@@ -1,16 +1,32 @@
 //! Random lists of commands, each on a board of its own.
 
-use crate::host::{number_of, Host};
-use crate::ledger;
+use crate::berth::Summary;
+use crate::host::{number_of, Fenced, Host};
+use crate::ledger::{self, LENGTHS};
 use crate::questions;
 use crate::session::Session;
+use crate::summary;
 use crate::tally::Tally;
 use crate::writer::{Sizes, Writer, SIZES};
 
-/// A buffer is lent that is too short or too long.
+/// A summary table of another length is lent.
+fn lend_other_table(writer: &mut Writer, host: &mut Host) {
+    let mut records = host.table.inside().to_vec();
+    let length = *writer.random.choose(&[0, 1, LENGTHS.table - 1, LENGTHS.table + 1, 2 * LENGTHS.table]);
+    records.resize(length, Summary { open: writer.random.byte(), struck: 0, rules: 255 });
+    host.table = Fenced::new(&records);
+}
+
+/// A buffer, the table or both are lent too short or too long. What stands after it is all as it was.
 fn other_length(writer: &mut Writer, session: &mut Session, bytes: &[u8]) {
     let mut host = session.host.clone();
-    questions::lend_other_length(&mut writer.random, &mut host);
+    let which = writer.random.below(4);
+    if which < 2 {
+        questions::lend_other_length(&mut writer.random, &mut host);
+    }
+    if which > 0 {
+        lend_other_table(writer, &mut host);
+    }
     let refusal = session.ledger.refusal(host.lengths(), bytes);
     let (answer, _) = host.command(bytes);
     assert_eq!(number_of(&answer), refusal, "the refusal of {bytes:?} with other lengths");
@@ -26,6 +42,10 @@ fn list(seed: u64, sizes: &'static Sizes, tally: &mut Tally) -> Host {
         let bytes = writer.next(&session.ledger);
         if writer.random.below(64) == 0 {
             other_length(&mut writer, &mut session, &bytes);
+        }
+        if writer.random.percent(25) {
+            summary::alter(&mut writer.random, session.host.table.inside_mut());
+            session.tally.altered_tables += 1;
         }
         session.command(&bytes);
         let changed = bytes.first().is_some_and(|kind| !ledger::writes_draft_only(*kind));

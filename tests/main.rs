@@ -1,5 +1,5 @@
 //! Tests of the board as users have it, the static library and the sheet program, against a second account of the board that shares no code with it: a ledger
-//! (ledger.rs), a filter from scratch (filter.rs) and a writer of sheets (sheet.rs). Seeds are fixed. They run in the repository's folder; tests/run builds
+//! (ledger.rs), a filter from scratch (filter.rs), a count of its slots and rules (summary.rs) and a writer of sheets (sheet.rs). Seeds are fixed. They run in the repository's folder; tests/run builds
 //! what they need.
 //!
 //!     tests [samples | lists | sheets | broken]
@@ -21,6 +21,7 @@ mod replay;
 mod samples;
 mod session;
 mod sheet;
+mod summary;
 mod tally;
 mod writer;
 

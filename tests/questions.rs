@@ -4,7 +4,7 @@
 use crate::berth::{Answer, Row, Slot};
 use crate::filter::{has, is_alive};
 use crate::host::{number_of, Fenced, Host};
-use crate::ledger::{Ledger, LENGTHS};
+use crate::ledger::Ledger;
 use crate::random::Random;
 use crate::session::Session;
 
@@ -46,7 +46,7 @@ pub fn ask(random: &mut Random, session: &mut Session) {
 
 /// One of the buffers gets another length.
 pub fn lend_other_length(random: &mut Random, host: &mut Host) {
-    let buffer = random.below(LENGTHS.len());
+    let buffer = random.below(host.buffers.len());
     let mut contents = host.buffers[buffer].inside().to_vec();
     let length = *random.choose(&[0, 1, contents.len() - 1, contents.len() + 1]);
     contents.resize(length, random.byte());
@@ -56,10 +56,9 @@ pub fn lend_other_length(random: &mut Random, host: &mut Host) {
 impl Session<'_> {
     /// The refusal of a question that the ledger refuses so, where the buffers are of their lengths.
     fn due(&self, refusal: u8) -> u8 {
-        if self.host.lengths() == LENGTHS {
-            refusal
-        } else {
-            1
+        match self.host.lengths().question_refusal() {
+            0 => refusal,
+            other => other,
         }
     }
 

@@ -1,42 +1,51 @@
-//! Files of commands, each replayed by one call on memory with any contents, and its commands sent one by one to a fresh board: the same value, bytes, count
-//! and number. Where a length is wrong nothing changes.
+//! Files of commands, each replayed by one call on memory with any contents, and its commands sent one by one to a fresh board: the same value, bytes, table,
+//! count and number. Where a length is wrong nothing changes.
 
 use crate::altered::some_host;
 use crate::berth::{Refusal, Replay, FILE};
-use crate::host::{number_of, Host};
-use crate::ledger::{body_length, read_refusal, LENGTHS};
+use crate::filter::open_slots;
+use crate::host::{number_of, Fenced, Host};
+use crate::ledger::{body_length, read_refusal, Ledger, LAST_REFUSAL, LENGTHS};
 use crate::random::Random;
 use crate::sheet::some_file;
+use crate::summary::table_of;
 
 const FILES: u64 = 3000;
 
-/// What the file's commands leave of a fresh board, and what is to be said of them.
+/// What the file's commands leave of a fresh board, with a table that is recounted, and what is to be said of them.
 fn one_by_one(file: &[u8]) -> (Host, Replay) {
-    let (mut host, mut read, mut ran) = (Host::fresh(), 0, 0);
-    while read < file.len() {
+    let (mut host, mut ledger, mut read) = (Host::fresh(), Ledger::default(), 0);
+    let mut replay = Replay { ran: 0, end: None };
+    while read < file.len() && replay.end.is_none() {
         let rest = &file[read..];
-        let number = read_refusal(rest);
-        if number != 0 {
-            return (host, Replay { ran, end: Some(Refusal::from_number(number)) });
+        match read_refusal(rest) {
+            0 => {
+                let length = 1 + body_length(rest[0]).unwrap();
+                let bytes = &rest[..length];
+                let _ = host.command(bytes);
+                if ledger.refusal(LENGTHS, bytes) == 0 {
+                    ledger.obey(bytes);
+                }
+                (read, replay.ran) = (read + length, replay.ran + 1);
+            }
+            number => replay.end = Some(Refusal::from_number(number)),
         }
-        let length = 1 + body_length(rest[0]).unwrap();
-        let _ = host.command(&rest[..length]);
-        (read, ran) = (read + length, ran + 1);
     }
-    (host, Replay { ran, end: None })
+    host.table = Fenced::new(&table_of(&ledger, &open_slots(&ledger)));
+    (host, replay)
 }
 
 /// Returns the number that was answered.
 fn check(host: &mut Host, file: &[u8]) -> u8 {
     let before = host.clone();
     let found = host.replay(file);
-    let (left, due) = match (before.lengths() == LENGTHS, file.len() <= FILE) {
-        (false, _) => (before, Err(Refusal::BufferLength)),
-        (_, false) => (before, Err(Refusal::FileLength)),
-        _ => {
+    let (left, due) = match before.lengths().refusal() {
+        0 if file.len() > FILE => (before, Err(Refusal::FileLength)),
+        0 => {
             let (left, due) = one_by_one(file);
             (left, Ok(due))
         }
+        number => (before, Err(Refusal::from_number(number))),
     };
     assert_eq!(found, due, "the answer to a file of {} bytes", file.len());
     assert!(*host == left, "what a file of {} bytes leaves", file.len());
@@ -47,19 +56,22 @@ fn check(host: &mut Host, file: &[u8]) -> u8 {
 fn clear(host: &mut Host) {
     let before = host.clone();
     let number = number_of(&host.fresh_board());
-    let (left, due) = if before.lengths() == LENGTHS { (Host::fresh(), 0) } else { (before, 1) };
+    let due = before.lengths().refusal();
+    let left = if due == 0 { Host::fresh() } else { before };
     assert_eq!(number, due, "the answer to a fresh board");
     assert!(*host == left, "what a fresh board leaves");
 }
 
 pub fn run(left: &[Host]) {
-    let mut numbers = [0; 5];
+    let mut seen = [0; LAST_REFUSAL + 1];
     for seed in 0..FILES {
         crate::place::list("replayed file", seed);
         let random = &mut Random(seed);
-        numbers[check(&mut some_host(random, left), &some_file(seed)) as usize] += 1;
+        seen[check(&mut some_host(random, left), &some_file(seed)) as usize] += 1;
         clear(&mut some_host(random, left));
     }
-    assert!(!numbers.contains(&0), "a file never ended under a number: {numbers:?}");
-    println!("replayed: {FILES} files, ended by number {numbers:?}");
+    let ends = [0, 1, 22, 2, 3, 4].map(|number: usize| (number, seen[number]));
+    assert!(ends.iter().all(|(_, seen)| *seen > 0), "a file never ended under a number: {ends:?}");
+    let ends = ends.map(|(number, seen)| format!(" {number}: {seen}"));
+    println!("replayed: {FILES} files, ended under{}", ends.concat());
 }

@@ -1,8 +1,8 @@
 //! Samples whose values are written out: the texts in samples/, whose sheets stand beside them, and the sample boards (SCOPE 8).
 
-use crate::berth::Board;
+use crate::berth::{Board, Summary};
 use crate::host::number_of;
-use crate::sheet::{program_writes, sheet_of};
+use crate::sheet::{check_total, program_writes, sheet_of};
 use crate::tally::Tally;
 use std::path::Path;
 use std::process::Command;
@@ -27,6 +27,7 @@ fn check_texts(tally: &mut Tally) {
         let bytes = bytes_of(&text);
         assert_eq!(program_writes(&bytes), sheet, "the program's sheet of {}", text.display());
         assert_eq!(sheet_of(&bytes, tally), sheet, "the tests' sheet of {}", text.display());
+        check_total(&bytes, &sheet, tally);
         seen.push(text.file_stem().unwrap().to_str().unwrap().to_owned());
     }
     for name in ["ac3-example", "harbour", "session"] {
@@ -38,6 +39,13 @@ fn check_texts(tally: &mut Tally) {
 fn open(board: &Board, call: u8) -> Vec<u32> {
     let mask = board.open_slots(call).unwrap().mask;
     (0..32).filter(|slot| mask >> slot & 1 == 1).collect()
+}
+
+/// The first records of the table, by open slots, struck slots and rules; the others are zeros.
+fn figures<const CALLS: usize>(board: &Board) -> [(u8, u8, u8); CALLS] {
+    let (first, others) = board.summaries().split_at(CALLS);
+    assert!(others.iter().all(|record| *record == Summary::default()), "records of no call: {others:?}");
+    std::array::from_fn(|call| (first[call].open, first[call].struck, first[call].rules))
 }
 
 /// Puts a rule. S is to be this.
@@ -55,10 +63,13 @@ fn check_put_and_lift() {
     board.start(&[3, 3, 2]).unwrap();
     put(&mut board, 0, &[0, 1], &[&[0, 1], &[0, 2], &[1, 2]], 2);
     assert_eq!([0, 1, 2].map(|call| open(&board, call)), [vec![0, 1], vec![1, 2], vec![0, 1]], "P1");
+    assert_eq!(figures(&board), [(2, 1, 1), (2, 1, 1), (2, 0, 0)], "P1");
     put(&mut board, 1, &[1, 2], &[&[1, 0], &[0, 1]], 3);
     assert_eq!([0, 1, 2].map(|call| open(&board, call)), [[0], [1], [0]], "P2");
+    assert_eq!(figures(&board), [(1, 2, 1), (1, 2, 2), (1, 1, 1)], "P2");
     assert_eq!(board.lift(0).unwrap().reopened, 4, "P3");
     assert_eq!([0, 1, 2].map(|call| open(&board, call)), [vec![0, 1, 2], vec![0, 1], vec![0, 1]], "P3");
+    assert_eq!(figures(&board), [(3, 0, 0), (2, 1, 1), (2, 0, 1)], "P3");
 }
 
 /// P5 and P6: a rule without rows closes its call alone, until it is lifted.
@@ -67,8 +78,10 @@ fn check_closed_call() {
     board.start(&[2, 3]).unwrap();
     put(&mut board, 9, &[0], &[], 2);
     assert_eq!([0, 1].map(|call| open(&board, call)), [vec![], vec![0, 1, 2]], "P5");
+    assert_eq!(figures(&board), [(0, 2, 1), (3, 0, 0)], "P5");
     assert_eq!(board.lift(9).unwrap().reopened, 2, "P6");
     assert_eq!([0, 1].map(|call| open(&board, call)), [vec![0, 1], vec![0, 1, 2]], "P6");
+    assert_eq!(figures(&board), [(2, 0, 0), (3, 0, 0)], "P6");
 }
 
 /// P7 to P12: the largest count, rule number and number of rows, and one more of each.
@@ -83,6 +96,7 @@ fn check_limits() {
     }
     assert_eq!(number_of(&board.row(&[0, 2])), 13, "P12");
     assert_eq!(board.put().unwrap().struck, 30, "the slots of call 1 that no row has");
+    assert_eq!(figures(&board), [(32, 0, 1), (2, 30, 1)]);
 }
 
 /// A put under a number in force keeps the draft, which can be put once the number is free; and a number not in force cannot be lifted.

@@ -1,9 +1,10 @@
-//! A host's board beside a ledger and a filter from scratch: each answer, report, field and byte is held to theirs.
+//! A host's board beside a ledger and a filter from scratch: each answer, report, field, byte and record is held to theirs.
 
 use crate::berth::{Board, Report};
 use crate::filter::{self, Slots};
 use crate::host::{number_of, value_of, Host};
 use crate::ledger::{self, Ledger};
+use crate::summary::table_of;
 use crate::tally::Tally;
 use std::ops::RangeInclusive;
 
@@ -29,7 +30,9 @@ impl<'a> Session<'a> {
     pub fn new(tally: &'a mut Tally) -> Self {
         let (host, board, ledger) = (Host::fresh(), Board::new(), Ledger::default());
         assert_eq!(host.value, value_of(&ledger), "the value before the first command");
-        Session { host, board, ledger, open: vec![], tally }
+        let session = Session { host, board, ledger, open: vec![], tally };
+        session.check_board();
+        session
     }
 
     pub fn command(&mut self, bytes: &[u8]) {
@@ -41,6 +44,16 @@ impl<'a> Session<'a> {
         if let Ok(report) = answer {
             self.accepted(bytes, report, &before);
         }
+        self.check_tables(bytes, answer.is_ok());
+    }
+
+    /// The wrapper's table is current after every command, and the host's, which may have been altered, after an accepted one. (host.rs asserts that a refused one
+    /// leaves it.)
+    fn check_tables(&mut self, bytes: &[u8], accepted: bool) {
+        let current = table_of(&self.ledger, &self.open);
+        assert_eq!(self.board.summaries(), &current, "the wrapper's summary table after {bytes:?}");
+        assert!(!accepted || self.host.table.inside() == current, "the summary table after {bytes:?}");
+        self.tally.tables += 1;
     }
 
     /// The ledger follows, and the value, every byte and the report are as it says.
@@ -66,11 +79,12 @@ impl<'a> Session<'a> {
         self.tally.report(report);
     }
 
-    /// The wrapper's own board has come to hold the same.
+    /// The wrapper's own board has come to hold the same, and a current table.
     pub fn check_board(&self) {
         let (board, host) = (self.board.memory(), self.host.memory());
         assert!(board.value == host.value, "the wrapper's board has another value");
         let same = (board.rows, board.killers, board.slots) == (host.rows, host.killers, host.slots);
         assert!(same, "the wrapper's board has other bytes");
+        assert_eq!(self.board.summaries(), &table_of(&self.ledger, &self.open), "the wrapper's summary table");
     }
 }

@@ -1,8 +1,11 @@
-//! The sheet of a file, written once more from the ledger and the filter, and what the sheet program writes.
+//! The sheet of a file, written once more from the ledger and the filter, and what the sheet program writes. The total of the sheet is held to the library's
+//! summary table and slot bytes, too.
 
+use crate::berth::Board;
 use crate::filter::{has, open_slots, report_of, Slots};
 use crate::ledger::{body_length, read_refusal, writes_draft_only, Ledger, LENGTHS, PUT};
 use crate::random::Random;
+use crate::summary::open_sum;
 use crate::tally::Tally;
 use crate::writer::{any_command, Writer, SIZES};
 use std::io::Write;
@@ -67,7 +70,28 @@ pub fn sheet_of(file: &[u8], tally: &mut Tally) -> String {
     for call in 0..sheet.ledger.counts.len() {
         sheet.call(call as u8);
     }
+    if !sheet.ledger.counts.is_empty() {
+        let open: u32 = sheet.open.iter().map(|mask| mask.count_ones()).sum();
+        sheet.text += &format!("t {open}\n");
+    }
     sheet.text + "end\n"
+}
+
+/// The total in the line before the last; none where there is no such line.
+fn total(sheet: &str) -> Option<usize> {
+    let line = sheet.lines().rev().nth(1)?;
+    line.strip_prefix("t ").map(|number| number.parse().unwrap())
+}
+
+/// The sheet's total is the sum over the records that the library leaves of the file, and the number of slot bytes of 255. Without a board all are none.
+pub fn check_total(file: &[u8], sheet: &str, tally: &mut Tally) {
+    let mut board = Board::new();
+    let _ = board.replay(file);
+    let counted = (open_sum(board.summaries()), board.memory().slots.iter().filter(|byte| **byte == 255).count());
+    let total = total(sheet);
+    assert_eq!(counted, (total.unwrap_or(0), total.unwrap_or(0)), "the open slots of the table and of the slot bytes");
+    assert_eq!(total.is_some(), board.memory().value.heads.counts[0] != 0, "a total where there is a board");
+    tally.totals += total.is_some() as usize;
 }
 
 /// What the program writes. It may stop reading early, so that not all can be handed to it.
@@ -88,6 +112,7 @@ fn check(file: &[u8], tally: &mut Tally) {
         let (found, due) = (line(&found, n), line(&due, n));
         panic!("line {n} of the sheet of {} bytes is {found:?}, and due is {due:?}", file.len());
     }
+    check_total(file, &found, tally);
     tally.files += 1;
 }
 

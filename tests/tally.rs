@@ -9,6 +9,11 @@ pub struct Tally {
     pub commands: usize,
     pub questions: usize,
     pub files: usize,
+    /// summary tables that were recounted, and commands that were sent with an altered one
+    pub tables: usize,
+    pub altered_tables: usize,
+    /// sheets whose total was compared with a table and with the slot bytes
+    pub totals: usize,
     /// commands, questions and lines of sheets by their refusal; 0 for none
     pub refusals: [usize; LAST_REFUSAL + 1],
     pub struck: usize,
@@ -36,16 +41,21 @@ impl Tally {
     pub fn print(&self) {
         let Tally { lists, commands, questions, files, struck, reopened, struck_again, .. } = self;
         println!("{lists} lists, {commands} commands, {questions} questions, {files} files");
+        println!(
+            "{} summary tables, {} of them altered before; {} totals",
+            self.tables, self.altered_tables, self.totals
+        );
         println!("{struck} slots struck, {reopened} reopened; {struck_again} lifts struck some again");
         println!("at most {} rules in force, {} rows in a draft", self.most_rules, self.most_rows);
         let refused = (1..).zip(&self.refusals[1..]).map(|(number, seen)| format!(" {number}: {seen}"));
         println!("accepted {}; refused under{}", self.refusals[0], refused.collect::<String>());
     }
 
-    /// Every refusal was seen, lifts reopened slots and struck some again, and a board and a draft were full.
+    /// Every refusal was seen, lifts reopened slots and struck some again, a board and a draft were full, and tables were altered.
     pub fn check_complete(&self) {
         assert!(!self.refusals.contains(&0), "a refusal was never seen");
         assert!(self.reopened > 0 && self.struck_again > 0, "no lift did anything");
         assert!((self.most_rules, self.most_rows) == (64, 64), "no board was full");
+        assert!(self.altered_tables > 0 && self.totals > 0, "no table was altered, or no sheet had a total");
     }
 }

@@ -24,9 +24,8 @@ use Rattle.berth.specs.declared.reply.PlaceReply.{PlaceReply}
 use Rattle.berth.specs.declared.reply.SupportReply.{SupportReply}
 use Rattle.model.specs.Promise.{Promise}
 use Rattle.model.specs.Questions.{rowChecks, RowBytesPromise}
-use Rattle.board.specs.Fresh.{FreshPromise}
 use Rattle.board.specs.Replay.{ReplayPromise}
-use Rattle.layout.specs.Memory.{State}
+use Rattle.layout.specs.Memory.{State, Whole}
 use Rattle.model.specs.Refusals.{firstOf}
 use Rattle.layout.specs.Places.{rowStart}
 
@@ -45,14 +44,11 @@ commandReply (answer.Refused n) = record { struck = 0; reopened = 0; touched = 0
 abbrev pub replayReply : Replayed → ReplayReply
 replayReply r = record { ran = r .ran; number = r .number }
 
--- of a command, a fresh board and a file that is replayed: what is replied and the memory that is left, value and all, keep the entry's promise
-abbrev pub CommandReplied : List ℕ → State → CommandReply → State → Type 0
+-- of a command and a file that is replayed: what is replied and the memory that is left, value and table and all, keep the entry's promise
+abbrev pub CommandReplied : List ℕ → Whole → CommandReply → Whole → Type 0
 CommandReplied bytes before reply after = Replied (λ given. Promise before bytes given after) commandReply reply
 
-abbrev pub FreshReplied : State → CommandReply → State → Type 0
-FreshReplied before reply after = Replied (λ given. FreshPromise before given after) commandReply reply
-
-abbrev pub ReplayReplied : List ℕ → State → ReplayReply → State → Type 0
+abbrev pub ReplayReplied : List ℕ → Whole → ReplayReply → Whole → Type 0
 ReplayReplied file before reply after = ReplayPromise before file (reply .number) (reply .ran) after
 
 -- the mask of a call's open slots, and its ones

@@ -4,12 +4,11 @@ use lib.ListN.{length}
 use Rattle.layout.specs.declared.value.Heads.{Heads}
 use Rattle.layout.specs.declared.value.RuleData.{RuleData}
 use Rattle.layout.specs.declared.value.Draft.{Draft}
-use Rattle.layout.specs.declared.value.Value.{Value}
 use Rattle.layout.specs.Value.{freshValue}
 
 -- it rises with any change of a struct, of a function or of what one means
 abbrev pub interfaceVersion : ℕ
-interfaceVersion = 3
+interfaceVersion = 4
 
 -- the bytes of each field, one after another: fields of bytes leave no room between them
 abbrev pub headsSize : Heads → ℕ

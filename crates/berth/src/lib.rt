@@ -1,6 +1,6 @@
 // The board for hosts in C and Rust: the entries and the five questions under their C names. The value beside the buffers is a plain C struct: lent by
-// pointer to the three functions that write it, and handed by value to the questions. hosts/berth.h says the same for C, and two numbers tell a host whether its
-// header is this library's.
+// pointer to the two functions that write it, and handed by value to the questions. The summary table is a slice of C structs. hosts/berth.h says the same for C, and
+// two numbers tell a host whether its header is this library's.
 // Proved: each reply hands on an answer that keeps its promise of the model's specs, on any value and any buffers. Assumed: nothing here; of a host, that a
 // lent pointer reaches as far as its length says, and that nothing lent to one call overlaps.
 pub mod reply; // the answers as C structs
@@ -12,16 +12,17 @@ use crate::reply::RowReply;
 use crate::reply::SlotsReply;
 use crate::reply::StateReply;
 use crate::reply::SupportReply;
+use layout::summary::Summary;
 use layout::value::Value;
 ghost use mathlib.Core.Path.{_≡_};
 ghost use Rattle.model.specs.Questions.{SlotsPromise, StatePromise, RowPromise, SupportPromise};
-ghost use Rattle.berth.specs.Replies.{Replied, CommandReplied, FreshReplied, ReplayReplied, PlaceReplied, slotsReply, stateReply, rowReply, supportReply};
+ghost use Rattle.berth.specs.Replies.{Replied, CommandReplied, ReplayReplied, PlaceReplied, slotsReply, stateReply, rowReply, supportReply};
 ghost use Rattle.layout.specs.Value.{freshValue};
-ghost use Rattle.layout.specs.Memory.{memory};
+ghost use Rattle.layout.specs.Memory.{memory, wholeOf};
 ghost use Rattle.berth.specs.Version.{interfaceVersion, valueSize};
 
 // A host compares these two with what its header says. They take and return plain numbers, so that a host of any version can ask.
-const VERSION: u32 = 3;
+const VERSION: u32 = 4;
 
 // The bytes of `Value`: 416 of the heads and 263 of the draft.
 const VALUE_SIZE: usize = 679;
@@ -48,7 +49,7 @@ pub extern "C" fn berth_fresh() -> Value
     Value::fresh()
 }
 
-// A command. The value is written in place, and stays as it was where the command is refused.
+// A command. Value, buffers and table are written in place, and stay as they were where the command is refused.
 #[no_mangle]
 pub extern "C" fn berth_command(
     value: &mut Value,
@@ -56,34 +57,19 @@ pub extern "C" fn berth_command(
     rows: &mut [u8],
     killers: &mut [u8],
     slots: &mut [u8],
+    table: &mut [Summary],
 ) -> CommandReply
     ensures { λ r. ⌜ CommandReplied
-        (now (bytes .entry)) (memory (now (value .entry)) (rows .entry) (killers .entry) (slots .entry)) r
-        (memory (now (value .exit)) (rows .exit) (killers .exit) (slots .exit)) ⌝ }
+        (now (bytes .entry)) (wholeOf (memory (now (value .entry)) (rows .entry) (killers .entry) (slots .entry)) (now (table .entry))) r
+        (wholeOf (memory (now (value .exit)) (rows .exit) (killers .exit) (slots .exit)) (now (table .exit))) ⌝ }
 {
-    let outcome = board::command(*value, bytes, rows, killers, slots);
+    let outcome = board::command(*value, bytes, rows, killers, slots, table);
     *value = outcome.value;
     reply::of_outcome(outcome)
 }
 
-// The memory becomes a fresh board's, whatever it held: the value is written in place, or stays as it was where it is refused.
-#[no_mangle]
-pub extern "C" fn berth_fresh_board(
-    value: &mut Value,
-    rows: &mut [u8],
-    killers: &mut [u8],
-    slots: &mut [u8],
-) -> CommandReply
-    ensures { λ r. ⌜ FreshReplied
-        (memory (now (value .entry)) (rows .entry) (killers .entry) (slots .entry)) r
-        (memory (now (value .exit)) (rows .exit) (killers .exit) (slots .exit)) ⌝ }
-{
-    let outcome = board::fresh_board(*value, rows, killers, slots);
-    *value = outcome.value;
-    reply::of_outcome(outcome)
-}
-
-// The memory becomes a fresh board's, and the commands of a file are run on it. The value is written in place, and stays as it was where the file is refused.
+// The memory becomes a fresh board's, whatever it held, and the commands of a file are run on it; a file without bytes leaves the fresh board. All of it is written in
+// place, and stays as it was where the file is refused.
 #[no_mangle]
 pub extern "C" fn berth_replay(
     value: &mut Value,
@@ -91,12 +77,13 @@ pub extern "C" fn berth_replay(
     rows: &mut [u8],
     killers: &mut [u8],
     slots: &mut [u8],
+    table: &mut [Summary],
 ) -> ReplayReply
     ensures { λ r. ⌜ ReplayReplied
-        (now (file .entry)) (memory (now (value .entry)) (rows .entry) (killers .entry) (slots .entry)) r
-        (memory (now (value .exit)) (rows .exit) (killers .exit) (slots .exit)) ⌝ }
+        (now (file .entry)) (wholeOf (memory (now (value .entry)) (rows .entry) (killers .entry) (slots .entry)) (now (table .entry))) r
+        (wholeOf (memory (now (value .exit)) (rows .exit) (killers .exit) (slots .exit)) (now (table .exit))) ⌝ }
 {
-    let replayed = board::replay(*value, file, rows, killers, slots);
+    let replayed = board::replay(*value, file, rows, killers, slots, table);
     *value = replayed.value;
     reply::of_replayed(replayed)
 }

@@ -1,5 +1,6 @@
 -- The theorems over the definitions.
 pub mod Demands
 pub mod Lists
-pub mod Fresh
+pub mod Store
 pub mod Replay
+pub mod Sheet

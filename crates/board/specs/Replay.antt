@@ -8,15 +8,20 @@ use lib.Dec.{ltb}
 use Rattle.model.specs.declared.command.Read.{Read}
 use Rattle.model.specs.declared.command.Read.the-variants as found
 use Rattle.model.specs.Commands.{readAt}
-use Rattle.model.specs.Lists.{Entered}
 use Rattle.model.specs.Sheet.{inputMost}
 use Rattle.model.specs.Refusals.{firstOf}
 use Rattle.model.specs.Numbers as refused
-use Rattle.layout.specs.Memory.{State, lentOf, freshState}
-use Rattle.layout.specs.Sizes.{Lent, badLent?}
+use Rattle.layout.specs.declared.value.Value.{Value}
+use Rattle.layout.specs.declared.summary.Summary.{Summary}
+use Rattle.layout.specs.Summary.{noTable}
+use Rattle.layout.specs.Memory.{State, Whole, wholeOf, lentWith, freshState, freshWhole, Filled}
+use Rattle.layout.specs.Sizes.{CommandLent, killersLength, rowsLength, slotsLength, recordsLength}
 use Rattle.board.specs.declared.file.Position.{Position}
+use Rattle.board.specs.declared.file.ReplayDone.{ReplayDone}
 use Rattle.board.specs.Lists.{After}
-use Rattle.model.specs.Ledger.{member}
+use Rattle.model.specs.declared.answer.Answer.{Answer}
+use Rattle.model.specs.Ledger.{lentConditions, lengths, member}
+use Rattle.model.specs.Promise.{MemoryPromise}
 
 -- the bytes from a place up to another
 abbrev pub partOf : List ℕ → ℕ → ℕ → List ℕ
@@ -48,30 +53,43 @@ endFrom (suc most) s at = endBy (readAt s at .read) (endFrom most s (readAt s at
 unfoldable pub fileEnd : List ℕ → ℕ
 fileEnd s = endFrom (length s) s 0
 
--- what is checked before the file is read
-abbrev pub replayConditions : Lent → List ℕ → List (Bool × ℕ)
-replayConditions lent file = (badLent? lent, refused.bufferLength) ∷ (ltb inputMost (length file), refused.fileLength) ∷ []
+-- what is checked before the file is read: the lengths of what is lent, as with a command, and the file's
+abbrev pub replayConditions : CommandLent → List ℕ → List (Bool × ℕ)
+replayConditions lent file = lentConditions lent ++ ((ltb inputMost (length file), refused.fileLength) ∷ [])
 
-pub record ReplayPromise (before : State) (file : List ℕ) (number ran : ℕ) (after : State) : Type 0 where
-  -- 1 or 2 on its condition, else how the file ends
-  pub number-is : number ≡ firstOf (replayConditions (lentOf before) file ++ ((true, fileEnd file) ∷ []))
-  -- refused 1 or 2, nothing is changed and nothing was run
-  pub unchanged : (n : ℕ) → firstOf (replayConditions (lentOf before) file) ≡ suc n → after ≡ before
-  pub none-ran : (n : ℕ) → firstOf (replayConditions (lentOf before) file) ≡ suc n → ran ≡ 0
+pub record ReplayPromise (before : Whole) (file : List ℕ) (number ran : ℕ) (after : Whole) : Type 0 where
+  -- 1, 22 or 2 on its condition, else how the file ends
+  pub number-is : number ≡ firstOf (replayConditions (lentWith before) file ++ ((true, fileEnd file) ∷ []))
+  -- refused 1, 22 or 2, nothing is changed and nothing was run
+  pub unchanged : (n : ℕ) → firstOf (replayConditions (lentWith before) file) ≡ suc n → after ≡ before
+  pub none-ran : (n : ℕ) → firstOf (replayConditions (lentWith before) file) ≡ suc n → ran ≡ 0
   -- else what is left stands after the file's commands, entered one after another on a fresh board, whatever the memory held
-  pub stands : firstOf (replayConditions (lentOf before) file) ≡ 0 → After (map member (fileCommands file)) after
-  pub all-ran : firstOf (replayConditions (lentOf before) file) ≡ 0 → ran ≡ length (fileCommands file)
+  pub stands : firstOf (replayConditions (lentWith before) file) ≡ 0 → After (map member (fileCommands file)) after
+  pub all-ran : firstOf (replayConditions (lentWith before) file) ≡ 0 → ran ≡ length (fileCommands file)
+
+-- A FRESH BOARD IN LENT MEMORY (SCOPE 2.8), whatever it held: refused 1 or 22 with nothing changed, or made fresh. A file without commands does it
+pub record FreshPromise (before : Whole) (number : ℕ) (after : Whole) : Type 0 where
+  pub number-is : number ≡ firstOf (lentConditions (lentWith before))
+  pub unchanged : (n : ℕ) → number ≡ suc n → after ≡ before
+  pub made : number ≡ 0 → after ≡ freshWhole
+
+-- the three buffers of a fresh board, byte by byte
+pub record FreshBuffers (rows killers slots : List ℕ) : Type 0 where
+  pub rows-filled : Filled rowsLength 255 rows
+  pub killers-filled : Filled killersLength 255 killers
+  pub slots-filled : Filled slotsLength 254 slots
 
 -- the memory is a fresh board's
 pub record IsFresh (s : State) : Type 0 where
   pub is : s ≡ freshState
 
--- ONE ROUND from p to q. A command is entered, and the next place is the one behind it
+-- ONE ROUND from p to q. A command is obeyed, and the next place is the one behind it
 pub record CommandTaken (following : ℕ) (file : List ℕ) (p : Position) (before : State) (q : Position) (after : State) : Type 0 where
   pub place : q .at ≡ following
   pub count : q .ran ≡ p .ran + 1
   pub end : q .number ≡ 0
-  pub entered : Entered (member (partOf file (p .at) following)) before after
+  pub given : Answer
+  pub promise : MemoryPromise lengths before (partOf file (p .at) following) given after
 
 -- or the file ends, under a number
 pub record FileEnded (n : ℕ) (file : List ℕ) (p : Position) (before : State) (q : Position) (after : State) : Type 0 where
@@ -93,10 +111,12 @@ pub record InFile (file : List ℕ) (p : Position) : Type 0 where
   pub further : p .at < length file
   pub few : p .ran ≤ p .at
 
--- BETWEEN TWO ROUNDS: the commands that were entered and those that are left, at most so many, are all of the file's
+-- BETWEEN TWO ROUNDS: the commands that were entered and those that are left, at most so many, are all of the file's. The state stands after those that were entered,
+-- with the table that they would have left
 pub record TakenTo (file : List ℕ) (p : Position) (s : State) : Type 0 where
   pub taken : List (List ℕ)
-  pub stands : After (map member taken) s
+  pub table : List Summary
+  pub stands : After (map member taken) (wholeOf s table)
   pub count : p .ran ≡ length taken
   pub few : p .ran ≤ p .at
   pub inside : p .at ≤ length file
@@ -108,6 +128,18 @@ pub record TakenTo (file : List ℕ) (p : Position) (s : State) : Type 0 where
 
 -- AFTER THE LAST: what was run is the file's commands, and the number is how it ends
 pub record FileTaken (file : List ℕ) (number ran : ℕ) (s : State) : Type 0 where
-  pub stands : After (map member (fileCommands file)) s
+  pub table : List Summary
+  pub stands : After (map member (fileCommands file)) (wholeOf s table)
   pub count : ran ≡ length (fileCommands file)
   pub end : number ≡ fileEnd file
+
+-- and with the records that were counted then, all of which are to be stored
+pub record FileCounted (file : List ℕ) (number ran records : ℕ) (w : Whole) : Type 0 where
+  pub stands : After (map member (fileCommands file)) w
+  pub count : ran ≡ length (fileCommands file)
+  pub end : number ≡ fileEnd file
+  pub all : records ≡ recordsLength
+
+-- a file that is refused: nothing was run, and nothing is to be stored
+abbrev pub noneReplayed : ℕ → Value → ReplayDone
+noneReplayed n value = record { replayed = record { value = value; ran = 0; number = n }; count = 0; table = noTable }

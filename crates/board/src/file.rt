@@ -1,13 +1,21 @@
-// A file of commands is replayed on a fresh board: each goes through the command entry, up to the file's end or the first that cannot be read.
-use crate::fresh::fresh_board;
+// A file of commands is replayed on a fresh board: each is obeyed as the command entry does, up to the file's end or the first that cannot be read. The records of the
+// table are counted once, at the end.
+use crate::run::obey_bytes;
+use command_board::new_board::fill;
+use layout::summary::RECORDS;
+use layout::summary::Table;
 use layout::value::Value;
 use layout::value::bad_lengths;
 use model::command::Read;
 use model::refusal::BUFFER_LENGTH;
 use model::refusal::FILE_LENGTH;
+use model::refusal::TABLE_LENGTH;
+use summary_counts::records::table_of;
+ghost use mathlib.Core.Path.{_≡_};
 ghost use Rattle.layout.specs.Bounds.{Sizes};
-ghost use Rattle.layout.specs.Memory.{memory};
-ghost use Rattle.board.specs.Replay.{ReplayPromise, IsFresh, InFile, Taken, FileTaken};
+ghost use Rattle.layout.specs.Memory.{memory, wholeOf};
+ghost use Rattle.board.specs.Store.{Stores};
+ghost use Rattle.board.specs.Replay.{FreshBuffers, ReplayPromise, IsFresh, InFile, Taken, FileTaken, FileCounted, noneReplayed};
 
 // The longest file that is read.
 const FILE: usize = 32768;
@@ -17,7 +25,7 @@ pub struct Replayed {
     pub value: Value,
     // so many commands were run, those among them that were refused
     pub ran: usize,
-    // 1 or 2 where nothing was run; else 3 or 4 where the file ended so, and 0 where all of it was read
+    // 1, 22 or 2 where nothing was run; else 3 or 4 where the file ended so, and 0 where all of it was read
     pub number: u8,
 }
 
@@ -29,6 +37,23 @@ pub struct Position {
     pub ran: usize,
     // how the file ended, once it has
     pub number: u8,
+}
+
+// What is left of a file, and the first so many records to be stored, none or all.
+pub struct ReplayDone {
+    pub replayed: Replayed,
+    pub count: usize,
+    pub table: Table,
+}
+
+// Every byte of the three buffers, whatever they held.
+fn fill_fresh(rows: &mut [u8], killers: &mut [u8], slots: &mut [u8])
+    requires { ⌜ Sizes (now rows) (now killers) (now slots) ⌝ }
+    ensures { λ _. ⌜ FreshBuffers (now (rows .exit)) (now (killers .exit)) (now (slots .exit)) ⌝ }
+{
+    fill(rows, 255);
+    fill(killers, 255);
+    fill(slots, 254);
 }
 
 // What stands at the place: a command is run, and anything else ends the file.
@@ -54,7 +79,7 @@ fn take_next(
     let end = file.len();
     match read {
         Read::Command(_) => {
-            let outcome = crate::command(value, &file[at..next], rows, killers, slots);
+            let outcome = obey_bytes(value, &file[at..next], rows, killers, slots);
             let left = outcome.value;
             Position {
                 value: left,
@@ -108,33 +133,63 @@ fn take_all(
     }
 }
 
-// Refused 1 or 2, and the value and all buffers are as they were; or the board is made fresh, whatever the memory held, and the file's commands are run on it.
-pub fn replay(
+// The board is made fresh, whatever the memory held, the file's commands are run on it, and the records are counted.
+fn run_file(file: &[u8], rows: &mut [u8], killers: &mut [u8], slots: &mut [u8]) -> ReplayDone
+    requires { ⌜ Sizes (now rows) (now killers) (now slots) ⌝ }
+    ensures { λ r. ⌜ FileCounted
+        (now (file .entry)) (r .replayed .number) (r .replayed .ran) (r .count)
+        (wholeOf (memory (r .replayed .value) (rows .exit) (killers .exit) (slots .exit)) (r .table .records)) ⌝ }
+{
+    fill_fresh(rows, killers, slots);
+    let replayed = take_all(Value::fresh(), file, rows, killers, slots);
+    let value = replayed.value;
+    let heads = value.heads;
+    let table = table_of(heads, slots);
+    ReplayDone {
+        replayed,
+        count: RECORDS,
+        table,
+    }
+}
+
+// A file that is refused under the number n: nothing was run, and nothing is to be stored.
+fn refused(n: u8, value: Value) -> ReplayDone
+    ensures { λ r. ⌜ r ≡ noneReplayed n value ⌝ }
+{
+    ReplayDone {
+        replayed: Replayed {
+            value,
+            ran: 0,
+            number: n,
+        },
+        count: 0,
+        table: Table::empty(),
+    }
+}
+
+// The file with a table of n records.
+pub fn replay_core(
     value: Value,
     file: &[u8],
     rows: &mut [u8],
     killers: &mut [u8],
     slots: &mut [u8],
-) -> Replayed
-    ensures { λ r. ⌜ ReplayPromise
-        (memory value (rows .entry) (killers .entry) (slots .entry)) (now (file .entry)) (r .number) (r .ran)
-        (memory (r .value) (rows .exit) (killers .exit) (slots .exit)) ⌝ }
+    n: usize,
+) -> ReplayDone
+    ensures { λ r. ⌜ Stores
+        (λ old new. ReplayPromise
+        (wholeOf (memory value (rows .entry) (killers .entry) (slots .entry)) old) (now (file .entry)) (r .replayed .number) (r .replayed .ran)
+        (wholeOf (memory (r .replayed .value) (rows .exit) (killers .exit) (slots .exit)) new))
+        n (r .count) (r .table .records) ⌝ }
 {
     if bad_lengths(rows, killers, slots) {
-        return Replayed {
-            value,
-            ran: 0,
-            number: BUFFER_LENGTH,
-        };
+        return refused(BUFFER_LENGTH, value);
+    }
+    if n != RECORDS {
+        return refused(TABLE_LENGTH, value);
     }
     if FILE < file.len() {
-        return Replayed {
-            value,
-            ran: 0,
-            number: FILE_LENGTH,
-        };
+        return refused(FILE_LENGTH, value);
     }
-    let outcome = fresh_board(value, rows, killers, slots);
-    let fresh = outcome.value;
-    take_all(fresh, file, rows, killers, slots)
+    run_file(file, rows, killers, slots)
 }

@@ -3,5 +3,6 @@ pub mod Sizes
 pub mod Places
 pub mod Bounds
 pub mod Value
+pub mod Summary
 pub mod Memory
 pub mod Laws

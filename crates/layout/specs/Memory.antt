@@ -1,4 +1,4 @@
--- A STATE OF THE MEMORY: the value and the three buffers, and the fresh one.
+-- A STATE OF THE MEMORY: the value and the three buffers; with a summary table beside them it is the whole that commands write. The fresh ones.
 use mathlib.Core.Path.{_≡_}
 use mathlib.Core.List.{List}
 use Prim.Native.Nat.{ℕ, _<_}
@@ -6,7 +6,9 @@ use denote.Ref.{RefT, now}
 use lib.ListN.{length, replicate, getD}
 use Rattle.layout.specs.declared.value.Value.{Value}
 use Rattle.layout.specs.Value.{freshValue}
-use Rattle.layout.specs.Sizes.{Lent, killersLength, rowsLength, slotsLength}
+use Rattle.layout.specs.declared.summary.Summary.{Summary}
+use Rattle.layout.specs.Summary.{noRecords}
+use Rattle.layout.specs.Sizes.{Lent, CommandLent, killersLength, rowsLength, slotsLength}
 
 -- A STATE: the value and the three buffers
 pub record State : Type 0 where
@@ -29,6 +31,22 @@ lentOf s = record { rows = length (s .rows); killers = length (s .killers); slot
 -- before the first command (SCOPE 2.6)
 abbrev pub freshState : State
 freshState = record { value = freshValue; rows = replicate rowsLength 255; killers = replicate killersLength 255; slots = replicate slotsLength 254 }
+
+-- THE WHOLE that a command is lent and writes: a state, and the summary table
+pub record Whole : Type 0 where
+  pub state : State
+  pub table : List Summary
+
+abbrev pub wholeOf : State → List Summary → Whole
+wholeOf s table = record { state = s; table = table }
+
+-- the lengths of all of it
+abbrev pub lentWith : Whole → CommandLent
+lentWith w = record { buffers = lentOf (w .state); table = length (w .table) }
+
+-- before the first command the table holds zeros (SCOPE 2.9)
+abbrev pub freshWhole : Whole
+freshWhole = wholeOf freshState noRecords
 
 -- n bytes, each of them v
 pub record Filled (n v : ℕ) (l : List ℕ) : Type 0 where

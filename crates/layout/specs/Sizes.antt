@@ -1,4 +1,4 @@
--- THE LENGTHS of the buffers that the host lends.
+-- THE LENGTHS of what the host lends: three buffers of bytes to every entry, and to a command a summary table beside them.
 use mathlib.Core.Bool.{Bool, not, _&&_}
 use Prim.Native.Nat.{ℕ}
 use lib.Dec.{eqb}
@@ -13,7 +13,11 @@ killersLength = 4096
 abbrev pub slotsLength : ℕ
 slotsLength = 1024
 
--- the lengths of what is lent
+-- a record for each of 32 calls
+abbrev pub recordsLength : ℕ
+recordsLength = 32
+
+-- the lengths of the buffers
 pub record Lent : Type 0 where
   pub rows : ℕ
   pub killers : ℕ
@@ -22,3 +26,12 @@ pub record Lent : Type 0 where
 -- 1: one of the three is not as long as SCOPE 2.1 to 2.3 say
 abbrev pub badLent? : Lent → Bool
 badLent? lent = not (eqb (lent .rows) rowsLength && eqb (lent .killers) killersLength && eqb (lent .slots) slotsLength)
+
+-- the lengths of all that is lent with a command: the buffers, and the table in records
+pub record CommandLent : Type 0 where
+  pub buffers : Lent
+  pub table : ℕ
+
+-- 22: the table is not as long as SCOPE 2.9 says
+abbrev pub badTable? : CommandLent → Bool
+badTable? lent = not (eqb (lent .table) recordsLength)

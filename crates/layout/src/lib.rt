@@ -2,3 +2,4 @@
 // Proved: every function. Assumed: nothing.
 pub mod value; // the value beside the buffers, and the buffers' lengths
 pub mod places; // where bytes lie, and caps
+pub mod summary; // the summary table: its records and its length

@@ -13,6 +13,7 @@ pub mod Promised
 pub mod Lists
 pub mod Samples
 pub mod Reports
+pub mod Summary
 pub mod Masks
 pub mod WrongBoards
 pub mod Entry

@@ -1,5 +1,5 @@
 -- THE LEDGER (SCOPE 6.5 to 6.9), a term of the scope: a board's rules and counts as the commands alone make them, from their bytes and from how long the lent
--- buffers are. No byte of these buffers is read.
+-- buffers and the lent table are. Nothing that these hold is read.
 use mathlib.Core.Path.{_≡_}
 use mathlib.Core.Bool.{Bool, true, not, _&&_, _||_}
 use mathlib.Core.List.{List, [], _∷_, _++_}
@@ -15,7 +15,7 @@ use Rattle.model.specs.declared.command.Read.the-variants as found
 use Rattle.model.specs.Board.{Rule, Board, callAt, slotAt, GoodRule, Shape}
 use Rattle.model.specs.Tests.{some?, every?, isNone}
 use Rattle.model.specs.Commands.{scopeOf, slotsOf, readAt}
-use Rattle.layout.specs.Sizes.{Lent, badLent?, killersLength, rowsLength, slotsLength}
+use Rattle.layout.specs.Sizes.{CommandLent, badLent?, badTable?, killersLength, rowsLength, slotsLength, recordsLength}
 use Rattle.model.specs.Refusals.{firstOf}
 use Rattle.model.specs.Numbers as refused
 
@@ -45,9 +45,9 @@ abbrev pub draftOr : Option NumberedRule → NumberedRule
 draftOr none = record { number = 255; rule = record { scope = []; rows = [] } }
 draftOr (some d) = d
 
--- 1: of what is lent with a command
-abbrev pub lentConditions : Lent → List (Bool × ℕ)
-lentConditions lent = (badLent? lent, refused.bufferLength) ∷ []
+-- 1 and 22: of what is lent with a command
+abbrev pub lentConditions : CommandLent → List (Bool × ℕ)
+lentConditions lent = (badLent? (lent .buffers), refused.bufferLength) ∷ (badTable? lent, refused.tableLength) ∷ []
 
 -- 5: there is no first call, a count is above 32, or after a 0 comes another number
 abbrev pub badCounts? : List ℕ → Bool
@@ -113,14 +113,14 @@ ownConditions L (found.Refused k n) ns = []
 ownConditions L found.End ns = []
 
 -- what is checked without a look at the board: the lengths lent and the bytes' form; then the whole table of a command
-abbrev pub earlyConditions : Lent → List ℕ → List (Bool × ℕ)
+abbrev pub earlyConditions : CommandLent → List ℕ → List (Bool × ℕ)
 earlyConditions lent bytes = lentConditions lent ++ formConditions (readAt bytes 0 .read) (ltb (readAt bytes 0 .next) (length bytes))
 
-abbrev pub conditions : Ledger → Lent → List ℕ → List (Bool × ℕ)
+abbrev pub conditions : Ledger → CommandLent → List ℕ → List (Bool × ℕ)
 conditions L lent bytes = earlyConditions lent bytes ++ ownConditions L (readAt bytes 0 .read) (readAt bytes 0 .counts)
 
 -- a refusal's number, 0 for a command that is accepted
-abbrev pub refusal : Ledger → Lent → List ℕ → ℕ
+abbrev pub refusal : Ledger → CommandLent → List ℕ → ℕ
 refusal L lent bytes = firstOf (conditions L lent bytes)
 
 -- the counts up to the first 0
@@ -160,7 +160,7 @@ obey zero L r ns = readEffect L r ns
 obey (suc n) L r ns = L
 
 -- THE LEDGER'S STEP, by a command's bytes and the lengths lent (SCOPE 6.6, 6.7)
-abbrev pub step : Ledger → Lent → List ℕ → Ledger
+abbrev pub step : Ledger → CommandLent → List ℕ → Ledger
 step L lent bytes = obey (refusal L lent bytes) L (readAt bytes 0 .read) (readAt bytes 0 .counts)
 
 -- the ledger after a list of members of any type, each with its effect
@@ -171,7 +171,7 @@ ledgerAfter next L (m ∷ ms) = ledgerAfter next (next L m) ms
 -- a command of a list, as the ledger is fed it; and the run of a list of them
 pub record Member : Type 0 where
   pub bytes : List ℕ
-  pub lent : Lent
+  pub lent : CommandLent
 
 abbrev pub stepBy : Ledger → Member → Ledger
 stepBy L m = step L (m .lent) (m .bytes)
@@ -180,8 +180,8 @@ abbrev pub run : Ledger → List Member → Ledger
 run L ms = ledgerAfter stepBy L ms
 
 -- the lengths of what is lent, right
-abbrev pub lengths : Lent
-lengths = record { rows = rowsLength; killers = killersLength; slots = slotsLength }
+abbrev pub lengths : CommandLent
+lengths = record { buffers = record { rows = rowsLength; killers = killersLength; slots = slotsLength }; table = recordsLength }
 
 abbrev pub member : List ℕ → Member
 member bytes = record { bytes = bytes; lent = lengths }

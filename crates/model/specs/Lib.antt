@@ -10,6 +10,7 @@ pub mod Ledger
 pub mod Filter
 pub mod Report
 pub mod Representation
+pub mod Summary
 pub mod Promise
 pub mod Questions
 pub mod Sheet

@@ -12,36 +12,41 @@ use Rattle.model.specs.Records.{Open, Struck, Caused, KillerIn, NoRing, 
 use Rattle.model.specs.Ledger.{Member}
 use Rattle.model.specs.Promise.{Promise}
 use Rattle.layout.specs.Places.{causeOf, killerOf}
-use Rattle.layout.specs.Memory.{State, lentOf}
+use Rattle.layout.specs.Memory.{State, Whole, wholeOf, stateOf, lentWith}
 
 -- A LIST OF MEMBERS TAKES ONE STATE TO ANOTHER, step by step, over any states, members and steps
 pub data Runs (S M : Type 0) (Step : M → S → S → Type 0) : S → List M → S → Type 0 where
   done : {s : S} → Runs S M Step s [] s
   then : {s s′ s″ : S} {m : M} {ms : List M} → Step m s s′ → Runs S M Step s′ ms s″ → Runs S M Step s (m ∷ ms) s″
 
--- what stands after a command that was handed a buffer and left it so: a buffer of another length was not the one that stands (SCOPE 6.3)
-abbrev pub standing : List ℕ → List ℕ → List ℕ → List ℕ
+-- what stands after a command that was handed a buffer or a table and left it so: one of another length was not the one that stands (SCOPE 6.3)
+abbrev pub standing : {A : Type 0} → List A → List A → List A → List A
 standing own handed left = cond (eqb (length handed) (length own)) left own
 
--- ONE COMMAND OF A LIST IS ENTERED, by the entry's promise (SCOPE 6.2, 6.3). It is handed the value as it stands, and each buffer too if its length is right; a member
--- says which lengths are lent, and a buffer of another length may hold anything
-pub record Entered (m : Member) (s s′ : State) : Type 0 where
-  pub handed : State
-  pub left : State
+-- the state that stands, buffer by buffer; the value that the command left stands
+abbrev pub standingState : State → State → State → State
+standingState own handed left =
+    stateOf (left .value) (standing (own .rows) (handed .rows) (left .rows)) (standing (own .killers) (handed .killers) (left .killers))
+    (standing (own .slots) (handed .slots) (left .slots))
+
+-- what is handed of a buffer or a table: the one that stands, if its length is right; one of another length may hold anything
+abbrev pub Handed : {A : Type 0} → List A → List A → Type 0
+Handed own handed = length handed ≡ length own → handed ≡ own
+
+-- ONE COMMAND OF A LIST IS ENTERED, by the entry's promise (SCOPE 6.2, 6.3). It is handed the value as it stands, and each buffer and the table too if its length is
+-- right; a member says which lengths are lent
+pub record Entered (m : Member) (s s′ : Whole) : Type 0 where
+  pub handed : Whole
+  pub left : Whole
   pub given : Answer
-  pub value : handed .value ≡ s .value
-  pub lengths : lentOf handed ≡ m .lent
-  pub rows : length (handed .rows) ≡ length (s .rows) → handed .rows ≡ s .rows
-  pub killers : length (handed .killers) ≡ length (s .killers) → handed .killers ≡ s .killers
-  pub slots : length (handed .slots) ≡ length (s .slots) → handed .slots ≡ s .slots
+  pub value : handed .state .value ≡ s .state .value
+  pub lengths : lentWith handed ≡ m .lent
+  pub rows : Handed (s .state .rows) (handed .state .rows)
+  pub killers : Handed (s .state .killers) (handed .state .killers)
+  pub slots : Handed (s .state .slots) (handed .state .slots)
+  pub table : Handed (s .table) (handed .table)
   pub promise : Promise handed (m .bytes) given left
-  pub stands : s′
-      ≡ record {
-        value = left .value;
-        rows = standing (s .rows) (handed .rows) (left .rows);
-        killers = standing (s .killers) (handed .killers) (left .killers);
-        slots = standing (s .slots) (handed .slots) (left .slots);
-      }
+  pub stands : s′ ≡ wholeOf (standingState (s .state) (handed .state) (left .state)) (standing (s .table) (handed .table) (left .table))
 
 -- WHAT DEMAND 3 SAYS OF ONE LIST, over the ledger's board and the bytes after it
 pub record Demand3 (B : Board) (s : State) : Type 0 where

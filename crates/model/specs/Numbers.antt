@@ -84,3 +84,7 @@ noRow = 20
 -- there is no such column
 abbrev pub noColumn : ℕ
 noColumn = 21
+
+-- the lent summary table is not of its length
+abbrev pub tableLength : ℕ
+tableLength = 22

@@ -1,5 +1,5 @@
--- WHAT THE COMMAND ENTRY PROMISES (SCOPE 6.10, 10.1), over the state before, the command's bytes, the answer and the state after. The lengths lent are those
--- of the state before. The entry's `ensures` cites this record and nothing else.
+-- WHAT THE COMMAND ENTRY PROMISES (SCOPE 6.10, 10.1), over the state and the table before, the command's bytes, the answer, and the state and the table after. The
+-- lengths lent are those before. The entry's `ensures` cites the last record, and nothing else.
 use mathlib.Core.Path.{_≡_}
 use mathlib.Core.List.{List, [], _∷_}
 use Prim.Native.Nat.{ℕ, zero, suc}
@@ -16,7 +16,9 @@ use Rattle.model.specs.Commands.{readAt}
 use Rattle.model.specs.Ledger.{Ledger, LedgerShape, fresh, earlyConditions, kindConditions, refusal, effect, obey, step}
 use Rattle.model.specs.Report.{Reports}
 use Rattle.model.specs.Representation.{Represents}
-use Rattle.layout.specs.Memory.{State, lentOf}
+use Rattle.model.specs.Summary.{Current}
+use Rattle.layout.specs.Memory.{State, Whole, lentWith}
+use Rattle.layout.specs.Sizes.{CommandLent}
 use Rattle.model.specs.Refusals.{firstOf}
 
 -- AN ANSWER'S NUMBER AND VALUES (SCOPE 10.5): 0 with S, R, T for an accepted command; of a refusal the number, and no values (4.2)
@@ -62,9 +64,9 @@ pub record Decided (n : ℕ) (Reported : Report → Type 0) (L : Ledger) (given 
   pub represents : Represents L after
 
 -- on a state that is the ledger L's: the first condition of the whole table decides, and the state after is the stepped ledger's
-abbrev pub Answered : Ledger → State → List ℕ → Answer → State → Type 0
-Answered L before bytes given after =
-    Decided (refusal L (lentOf before) bytes) (ReportsOf (readAt bytes 0 .read) before after) (step L (lentOf before) bytes) given after
+abbrev pub Answered : CommandLent → Ledger → State → List ℕ → Answer → State → Type 0
+Answered lent L before bytes given after =
+    Decided (refusal L lent bytes) (ReportsOf (readAt bytes 0 .read) before after) (step L lent bytes) given after
 
 -- the same of a command that has been read, with the kind's own conditions: what the functions under the entry promise
 abbrev pub Obeyed : Ledger → State → Command → List ℕ → Answer → State → Type 0
@@ -82,14 +84,23 @@ pub record BoardMade (ns : List ℕ) (given : Answer) (after : State) : Type 0 w
   pub values : valuesOf given ≡ valuesAt (firstOf (kindConditions fresh kind.Board ns)) (0 ∷ 0 ∷ 0 ∷ [])
   pub represents : firstOf (kindConditions fresh kind.Board ns) ≡ 0 → Represents (effect fresh kind.Board ns) after
 
-pub record Promise (before : State) (bytes : List ℕ) (given : Answer) (after : State) : Type 0 where
-  -- WHATEVER THE MEMORY HOLDS (SCOPE 2.7): 1, 3 and 4 are given on their conditions
-  pub early : (n : ℕ) → firstOf (earlyConditions (lentOf before) bytes) ≡ suc n → numberOf given ≡ suc n
+-- OF VALUE AND BUFFERS, with all lengths that are lent
+pub record MemoryPromise (lent : CommandLent) (before : State) (bytes : List ℕ) (given : Answer) (after : State) : Type 0 where
+  -- WHATEVER THE MEMORY HOLDS (SCOPE 2.7): 1, 22, 3 and 4 are given on their conditions
+  pub early : (n : ℕ) → firstOf (earlyConditions lent bytes) ≡ suc n → numberOf given ≡ suc n
   -- a refusal leaves value and buffers as they were (SCOPE 4.2), and has a number
   pub refused : (n : ℕ) → given ≡ answer.Refused n → after ≡ before
   pub never-zero : NeverZero given
   -- a kind 1 does the same on every memory
-  pub made : firstOf (earlyConditions (lentOf before) bytes) ≡ 0 → readAt bytes 0 .read ≡ found.Command kind.Board
+  pub made : firstOf (earlyConditions lent bytes) ≡ 0 → readAt bytes 0 .read ≡ found.Command kind.Board
       → BoardMade (readAt bytes 0 .counts) given after
   -- WHERE THE STATE IS A LEDGER'S
-  pub answered : (L : Ledger) → LedgerShape L → Represents L before → Answered L before bytes given after
+  pub answered : (L : Ledger) → LedgerShape L → Represents L before → Answered lent L before bytes given after
+
+-- THE ENTRY'S: of value, buffers and table
+pub record Promise (before : Whole) (bytes : List ℕ) (given : Answer) (after : Whole) : Type 0 where
+  pub state : MemoryPromise (lentWith before) (before .state) bytes given (after .state)
+  -- refused, the table is as it was (SCOPE 4.2)
+  pub table-kept : (n : ℕ) → given ≡ answer.Refused n → after .table ≡ before .table
+  -- accepted, it is current, whatever it held (SCOPE 2.9): on the board of every ledger that the state after is of
+  pub current : numberOf given ≡ 0 → (L : Ledger) → LedgerShape L → Represents L (after .state) → Current (L .board) (after .table)

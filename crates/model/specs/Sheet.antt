@@ -3,7 +3,7 @@ use mathlib.Core.Bool.{cond}
 use mathlib.Core.List.{List, [], _∷_, _++_}
 use Prim.Native.Nat.{ℕ, zero, suc, _+_, _/_, _%_}
 use lib.ListN.{length}
-use lib.Dec.{ltb}
+use lib.Dec.{eqb, ltb}
 use Rattle.model.specs.declared.command.Command.{Command}
 use Rattle.model.specs.declared.command.Read.{Read}
 use Rattle.model.specs.declared.command.Read.the-variants as found
@@ -14,6 +14,7 @@ use Rattle.model.specs.Filter.{in?, openOf}
 use Rattle.model.specs.Commands.{kindOf, readAt}
 use Rattle.model.specs.Ledger.{Ledger, fresh, kindConditions, obey}
 use Rattle.model.specs.Report.{struckBy, reopenedBy}
+use Rattle.model.specs.Summary.{openTotal}
 use Rattle.model.specs.Refusals.{firstOf}
 use Rattle.model.specs.Numbers as refused
 
@@ -34,7 +35,7 @@ spaced (n ∷ ns) = 32 ∷ decimal n ++ spaced ns
 abbrev pub line : ℕ → List ℕ → List ℕ
 line letter ns = letter ∷ spaced ns ++ (10 ∷ [])
 
--- a line begins with `a` for a command that was accepted and `r` for one refused (SCOPE 7.2), and with `c` for a call (7.6)
+-- a line begins with `a` for a command that was accepted and `r` for one refused (SCOPE 7.2), with `c` for a call (7.6) and with `t` for the whole board (7.11)
 abbrev pub acceptedLine : ℕ → ℕ → ℕ → List ℕ
 acceptedLine k s r = line 97 (k ∷ s ∷ r ∷ [])
 
@@ -48,13 +49,17 @@ callLine left c = line 99 (c ∷ keepOnly (in? left c) (upFrom 0 32))
 abbrev pub endLine : List ℕ
 endLine = 101 ∷ 110 ∷ 100 ∷ 10 ∷ []
 
+-- the line of the whole board (SCOPE 7.11)
+abbrev pub totalLine : ℕ → List ℕ
+totalLine total = line 116 (total ∷ [])
+
 abbrev pub callLines : List (List ℕ) → List ℕ → List ℕ
 callLines left [] = []
 callLines left (c ∷ cs) = callLine left c ++ callLines left cs
 
--- the lines of the board, if there is one
+-- the lines of the board, if there is one: of its calls, and of the whole
 abbrev pub boardLines : Board → List ℕ
-boardLines B = callLines (openOf B) (upFrom 0 (length (B .counts)))
+boardLines B = cond (eqb (length (B .counts)) 0) [] (callLines (openOf B) (upFrom 0 (length (B .counts))) ++ totalLine (openTotal B))
 
 -- the line of a command, from its refusal's number and the boards before and after
 abbrev pub decisionLine : ℕ → Command → Board → Board → List ℕ

@@ -5,9 +5,9 @@ use Rattle.model.specs.Ledger.{Member, member}
 use Rattle.model.specs.Promise.{Promise}
 use Rattle.model.specs.Lists.{Runs, Entered}
 use Rattle.model.specs.Samples.{Sample}
-use Rattle.layout.specs.Memory.{State, freshState}
+use Rattle.layout.specs.Memory.{Whole, freshWhole}
 
 -- A SAMPLE'S LAST COMMAND, on any state that its other commands reach by the promise, with any answer and state after it that the promise allows
-pub record Last (x : Sample) (s : State) (given : Answer) (s′ : State) : Type 0 where
-  pub reached : Runs State Member Entered freshState (map member (x .before)) s
+pub record Last (x : Sample) (s : Whole) (given : Answer) (s′ : Whole) : Type 0 where
+  pub reached : Runs Whole Member Entered freshWhole (map member (x .before)) s
   pub promise : Promise s (x .last) given s′

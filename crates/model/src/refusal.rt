@@ -74,3 +74,6 @@ pub const NO_ROW: u8 = 20;
 
 // there is no such column
 pub const NO_COLUMN: u8 = 21;
+
+// the lent summary table is not of its length
+pub const TABLE_LENGTH: u8 = 22;

@@ -9,8 +9,7 @@ use Rattle.model.specs.Ledger.{Ledger, LedgerShape, fresh, upToZero}
 use Rattle.model.specs.Representation.{Represents}
 use Rattle.model.specs.Sheet.{refusedLine, readsFrom, linesFrom, inputMost}
 use Rattle.sheet_lines.specs.Append.{Appended}
-use Rattle.sheet_lines.specs.Joined.{joined}
-use Rattle.sheet_lines.specs.Calls.{slotLine}
+use Rattle.sheet_lines.specs.Calls.{callsAndTotal}
 use Rattle.sheet.specs.declared.advance.Progress.{Progress}
 use Rattle.layout.specs.Memory.{State}
 use Rattle.sheet.specs.Bounds.{linesMost, sheetMost}
@@ -25,9 +24,9 @@ fileLines input = linesFrom fresh (readsFrom (length input) input 0)
 unfoldable pub inputLines : List ℕ → List ℕ
 inputLines input = cond (ltb inputMost (length input)) (refusedLine 0 refused.fileLength) (fileLines input)
 
--- those of the calls, by their counts and the slot bytes
+-- those of the board, by the counts of its calls and the slot bytes
 unfoldable pub countedLines : List ℕ → List ℕ → List ℕ
-countedLines counts slots = joined (slotLine slots) (length (upToZero counts))
+countedLines counts slots = callsAndTotal (length (upToZero counts)) slots
 
 -- the input is not too long, and the buffer has room for the longest sheet
 pub record Fits (input out : List ℕ) : Type 0 where

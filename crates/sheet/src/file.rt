@@ -12,17 +12,22 @@ ghost use Rattle.sheet_lines.specs.Append.{Appended, Room};
 ghost use Rattle.sheet.specs.File.{fileLines, countedLines, Fits, Lined};
 ghost use Rattle.layout.specs.Memory.{memory};
 ghost use Rattle.layout.specs.Sizes.{slotsLength};
-ghost use Rattle.sheet_lines.specs.Lengths.{callLinesMost};
+ghost use Rattle.sheet_lines.specs.Lengths.{boardLinesMost};
 
-// The lines of the board, whose calls have these counts: at most 32 lines of 91 bytes.
+// The lines of the board, whose calls have these counts: at most 32 lines of 91 bytes, and one of 7 for the whole. Where there is no call there is no line.
 fn board_lines(out: &mut [u8], place: usize, counts: &[u8; 32], slots: &[u8]) -> usize
-    requires { ⌜ Room place callLinesMost (now out) ⌝ }
+    requires { ⌜ Room place boardLinesMost (now out) ⌝ }
     requires { ⌜ length (now counts) ≡ 32 ⌝ }
     requires { ⌜ length (now slots) ≡ slotsLength ⌝ }
     ensures { λ r. ⌜ Appended (countedLines (now (counts .entry)) (now (slots .entry))) place (now (out .entry)) (now (out .exit)) r ⌝ }
 {
     let n = sheet_lines::call_count(counts);
-    sheet_lines::call_lines(out, place, slots, n)
+    if n == 0 {
+        return place;
+    }
+    let listed = sheet_lines::call_lines(out, place, slots, n);
+    let total = summary_counts::figures::open_total(slots);
+    sheet_lines::total_line(out, listed, total)
 }
 
 // On a value and buffers that are fresh.

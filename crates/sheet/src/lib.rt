@@ -1,5 +1,5 @@
 // The sheet program's work, from the input's bytes to the output's in a lent buffer: each command of the input is read and obeyed on a board that starts fresh,
-// with a line for each; then come the lines of the board's calls, and the last line.
+// with a line for each; then come the lines of the board's calls and of the whole board, and the last line.
 // Proved: what is written is the definition's bytes (model's specs/Sheet.antt), for every input, and no byte behind them is changed. Assumed: nothing.
 use crate::answer::Sheet;
 use model::refusal::BUFFER_LENGTH;
@@ -18,8 +18,8 @@ mod file; // all of them, and the lines of the board
 // The longest input that is read.
 pub const INPUT: usize = 32768;
 
-// The longest sheet: a line of at most 11 bytes for each byte of the input, 32 lines of calls of at most 91, and the last line of 4.
-pub const ROOM: usize = 11 * INPUT + 32 * 91 + 4;
+// The longest sheet: a line of at most 11 bytes for each byte of the input, 32 lines of calls of at most 91, one of 7 for the whole board, and the last line of 4.
+pub const ROOM: usize = 11 * INPUT + 32 * 91 + 7 + 4;
 
 // All lines but the last.
 fn input_lines(input: &[u8], out: &mut [u8]) -> usize

@@ -1,6 +1,6 @@
 -- HOW LONG THE LINES ARE. Assumes nothing.
 use mathlib.Core.Bool.{cond}
-use Prim.Native.Nat.{ℕ, _*_}
+use Prim.Native.Nat.{ℕ, _+_, _*_}
 use lib.Dec.{leb}
 
 -- 1 where the number reaches the weight
@@ -11,7 +11,7 @@ reaches n w = cond (leb w n) 1 0
 abbrev pub decimalEnd : ℕ
 decimalEnd = 10000
 
--- the longest line of a command, the longest of a call, and the longest lines of all calls
+-- the longest line of a command, the longest of a call, the longest lines of all calls, the longest of the whole board, and the longest lines of a board
 abbrev pub lineMost : ℕ
 lineMost = 11
 
@@ -20,3 +20,9 @@ callLineMost = 91
 
 abbrev pub callLinesMost : ℕ
 callLinesMost = 32 * callLineMost
+
+abbrev pub totalLineMost : ℕ
+totalLineMost = 7
+
+abbrev pub boardLinesMost : ℕ
+boardLinesMost = callLinesMost + totalLineMost

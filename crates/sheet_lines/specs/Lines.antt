@@ -17,3 +17,6 @@ lineParts letter n ns = start letter n ∷ spaced ns ∷ (10 ∷ []) ∷ []
 
 abbrev pub acceptedParts : ℕ → ℕ → ℕ → List (List ℕ)
 acceptedParts k s r = start 97 k ∷ spaced (s ∷ []) ∷ spaced (r ∷ []) ∷ (10 ∷ []) ∷ []
+
+abbrev pub totalParts : ℕ → List (List ℕ)
+totalParts total = start 116 total ∷ (10 ∷ []) ∷ []

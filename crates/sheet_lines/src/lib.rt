@@ -6,7 +6,7 @@ ghost use mathlib.Core.List.{[], _∷_};
 ghost use Prim.Native.Nat.{_≤_, _<_};
 ghost use lib.ListN.{length};
 ghost use Rattle.model.specs.Ledger.{upToZero};
-ghost use Rattle.model.specs.Sheet.{decimal, spaced, acceptedLine, refusedLine, endLine};
+ghost use Rattle.model.specs.Sheet.{decimal, spaced, acceptedLine, refusedLine, totalLine, endLine};
 ghost use Rattle.sheet_lines.specs.Append.{Appended, Room};
 ghost use Rattle.sheet_lines.specs.Joined.{joined};
 ghost use Rattle.sheet_lines.specs.Digits.{digitIf};
@@ -187,6 +187,16 @@ pub fn call_count(counts: &[u8; 32]) -> usize
         n += 1;
     }
     32
+}
+
+// The line of the whole board: its open slots.
+pub fn total_line(out: &mut [u8], at: usize, total: usize) -> usize
+    requires { ⌜ Room at (length (totalLine total)) (now out) ⌝ }
+    requires { ⌜ total < decimalEnd ⌝ }
+    ensures { λ r. ⌜ Appended (totalLine total) at (now (out .entry)) (now (out .exit)) r ⌝ }
+{
+    let numbered = write_start(out, at, b't', total);
+    write_byte(out, numbered, b'\n')
 }
 
 // The last line, a fixed text.

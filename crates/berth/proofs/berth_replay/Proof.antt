@@ -5,6 +5,7 @@ use denote.Struct.Laws as LL
 use denote.Triple.Spec.{tripleOf}
 use denote.Triple.Table.{entered, cited}
 use Rattle.berth.specs.Replies.{replayReply, ReplayReplied}
+use Rattle.board.specs.Replay.{ReplayPromise}
 use Rattle.board.specs.declared.file.Replayed.{Replayed}
 use Rattle.berth.proofs.reply.ReplayReply as R
 use Rattle.berth.proofs.reply.ReplayReply.Laws as R′
@@ -35,5 +36,5 @@ berth-replay-spec 𝓤 H 𝓜 𝓖 𝓡 =
     (h-thm.met 𝓤 H 𝓜 𝓖 𝓡) in
     entered 𝓤 H (tripleOf 𝓤 H (𝓖 .A) f.signature (f.spec 𝓤 H (𝓖 .A) (𝓜 .mem) (𝓡 .run))) (tabled .C) (tabled .Λ) #berth-replay code.function (code.unfolded 𝓤 H 𝓜 𝓡)
     (meets R.the-type R′.the-laws R′.the-plain D.the-type D′.the-laws D′.the-plain (λ d. d .value) (λ (d : Replayed). replayReply d) 0 _ refl
-    (λ d vs is. LL.owed D.the-type D′.the-laws d vs is .0) #replay #of-replayed (λ file before d after. ReplayReplied file before (replayReply d) after) ReplayReplied (λ file before d after promise. promise)
+    (λ d vs is. LL.owed D.the-type D′.the-laws d vs is .0) #replay #of-replayed (λ file before (d : Replayed) after. ReplayPromise before file (d .number) (d .ran) after) ReplayReplied (λ file before d after promise. promise)
     𝓤 H (𝓖 .A) (givenOf 𝓤 H 𝓜 𝓖) (tablesOf 𝓤 H 𝓜 tabled) known known-reply)

@@ -1,66 +1,44 @@
--- The lengths are tested first; then what is read at the first byte decides.
-use mathlib.Core.Path.{sym, _∙_}
-use borrow.Author.Needs.{needs}
-use Rattle.model.specs.Laws.Shapes.{lent-sizes}
-use Rattle.model.specs.Laws.Entry.{refused-lengths}
-use Rattle.board.proofs.command.Statement.{statement}
-use Rattle.board.proofs.command.Tie as tie
+-- The walk over a lent table, at `command_core`, whose answer is the outcome.
+use mathlib.Core.Path.{refl}
+use contract.Running.{givenOf, tables, tablesOf}
+use denote.Struct.Laws as LL
+use denote.Triple.Spec.{tripleOf}
+use denote.Triple.Table.{entered, cited}
+use Rattle.model.specs.Promise.{Promise}
+use Rattle.model.specs.declared.answer.Outcome.{Outcome}
+use Rattle.board.specs.declared.run.Done.{Done}
+use Rattle.model.proofs.answer.Outcome as E
+use Rattle.model.proofs.answer.Outcome.Laws as E′
+use Rattle.board.proofs.run.Done as D
+use Rattle.board.proofs.run.Done.Laws as D′
+use Rattle.board.proofs.run.command_core as g
+use Rattle.board.proofs.run.command_core.Symbol as g-def
+use Rattle.board.proofs.run.command_core.Symbol.{name as #command-core}
+use Rattle.board.proofs.run.command_core.Met as g-thm
+use Rattle.summary_store.proofs.store_records as h
+use Rattle.summary_store.proofs.store_records.Symbol as h-def
+use Rattle.summary_store.proofs.store_records.Symbol.{name as #store-records}
+use Rattle.summary_store.proofs.store_records.Met as h-thm
+use Rattle.board.proofs.command.Key.{name as #command}
+use Rattle.board.proofs.command as f
+use Rattle.board.proofs.command.Statement as stated
+use Rattle.board.proofs.command.Code as code
+use Rattle.board.proofs.Tabled.{meets}
 
-bad-lengths-requires : tie.Need-bad-lengths-requires
-bad-lengths-requires c κs = search needs
-
-refused-requires : tie.Need-refused-requires
-refused-requires c κs = search needs
-
-same-length : tie.Need-same-length
-same-length c = search needs
-
-same-length-2 : tie.Need-same-length-2
-same-length-2 c = search needs
-
-same-length-3 : tie.Need-same-length-3
-same-length-3 c = search needs
-
-returns : tie.Need-returns
-returns c =
-    let tested = c .before .before in
-    rw (c .refused .ensures) (refused-lengths _ _ (sym (tested .bad-lengths .ensures) ∙ c .before .if1 .taken))
-
-decode-requires : tie.Need-decode-requires
-decode-requires c κs = search needs
-
-obey-read-requires : tie.Need-obey-read-requires
-obey-read-requires c κs =
-    let decoded = c .before .before .before in
-    let tested = decoded .before in
-    let sizes = lent-sizes _ (sym (tested .before .bad-lengths .ensures) ∙ tested .if1 .left) in
-    (record { rows-size = sizes .0; killers-size = sizes .1; slots-size = sizes .2 }, decoded .decode .ensures)
-
-same-length-4 : tie.Need-same-length-4
-same-length-4 c = search needs
-
-same-length-5 : tie.Need-same-length-5
-same-length-5 c = search needs
-
-same-length-6 : tie.Need-same-length-6
-same-length-6 c = search needs
-
-returns-2 : tie.Need-returns-2
-returns-2 c = search needs
-
-pub command-spec : {M : Type 1} → statement M
-command-spec =
-    tie.close
-    (tie.spec
-    bad-lengths-requires
-    refused-requires
-    same-length
-    same-length-2
-    same-length-3
-    returns
-    decode-requires
-    obey-read-requires
-    same-length-4
-    same-length-5
-    same-length-6
-    returns-2)
+pub command-spec : {M : Type 1} → stated.statement M
+unfolding code.routine tablesOf
+command-spec 𝓤 H 𝓜 𝓖 𝓡 =
+    let tabled = tables 𝓤 H 𝓜 𝓡 code.env in
+    let known =
+    cited 𝓤 H (tripleOf 𝓤 H (𝓖 .A) g.signature (g.spec 𝓤 H (𝓖 .A) (𝓜 .mem) (𝓡 .run))) 𝓜 𝓡 code.env #command-core g-def.routine code.calls-board·run·command-core
+    (g-thm.met 𝓤 H 𝓜 𝓖 𝓡) in
+    let known-store =
+    cited 𝓤 H (tripleOf 𝓤 H (𝓖 .A) h.signature (h.spec 𝓤 H (𝓖 .A) (𝓜 .mem) (𝓡 .run))) 𝓜 𝓡 code.env #store-records h-def.routine code.calls-summary-store·store-records
+    (h-thm.met 𝓤 H 𝓜 𝓖 𝓡) in
+    entered 𝓤 H (tripleOf 𝓤 H (𝓖 .A) f.signature (f.spec 𝓤 H (𝓖 .A) (𝓜 .mem) (𝓡 .run))) (tabled .C) (tabled .Λ) #command code.function (code.unfolded 𝓤 H 𝓜 𝓡)
+    (meets E.the-type E′.the-laws E′.the-plain D.the-type D′.the-laws (λ (d : Done). d .outcome) (λ (d : Done). d .count) (λ (d : Done). d .table)
+    record { offset = _; lies = refl; is = λ d vs is. LL.owed D.the-type D′.the-laws d vs is .0 }
+    record { offset = _; lies = refl; is = λ d vs is. LL.owed D.the-type D′.the-laws d vs is .1 .0 }
+    record { offset = _; lies = refl; is = λ d vs is. LL.owed D.the-type D′.the-laws d vs is .1 .1 .0 }
+    #command-core (λ (r : Outcome). r .value) (λ bytes before r after. Promise before bytes (r .answer) after)
+    𝓤 H (𝓖 .A) (givenOf 𝓤 H 𝓜 𝓖) (𝓜 .mem) (𝓡 .run) (tablesOf 𝓤 H 𝓜 tabled) known known-store)

@@ -1,29 +1,34 @@
--- DEMAND 3 OF THE COMMAND ENTRY (SCOPE 6.12 to 6.15), over every list of raw commands with any lengths lent, and over every two lists. Nothing is assumed but
--- that each command of a list meets the entry's contract, which `command` of this crate is proved to do.
-use mathlib.Core.Path.{_≡_}
+-- DEMAND 3 OF THE COMMAND ENTRY (SCOPE 6.12 to 6.15), over every list of raw commands with any lengths lent, and over every two lists; and the summary table after every
+-- list (2.9, 7.11). Nothing is assumed but that each command of a list meets the entry's contract, which `command` of this crate is proved to do.
+use mathlib.Core.Path.{_≡_, _∙_}
 use mathlib.Core.List.{List}
 use mathlib.Core.Logic.{_↔_, _⊎_}
-use Prim.Native.Nat.{ℕ, _<_}
-use lib.ListN.{length}
+use Prim.Native.Nat.{ℕ, _≤_, _<_}
+use lib.ListN.{length, getD}
 use Rattle.model.specs.Board.{Rule, Board, InForce, SelfSupporting, Viable, Alive, Dead, FullPlan, AtLeast}
 use Rattle.model.specs.Records.{Open, Struck, Caused, KillerIn, Ring, NoRing, EscapeFromAll, Recorded}
-use Rattle.model.specs.Ledger.{Member}
+use Rattle.model.specs.Ledger.{Member, fresh, run}
+use Rattle.model.specs.Report.{slotCount, open?}
+use Rattle.model.specs.Summary.{Current, openTotal, openSum}
 use Rattle.model.specs.Laws.Theory as theory
 use Rattle.model.specs.Laws.Lists.{demand-3, demand-3-two, runs-represent}
+use Rattle.model.specs.Laws.Summary.{absent-zero, total-of-records, total-of-bytes}
 use Rattle.layout.specs.Places.{causeOf, killerOf}
-use Rattle.layout.specs.Memory.{State}
+use Rattle.layout.specs.Summary.{noSummary}
+use Rattle.layout.specs.Sizes.{recordsLength}
+use Rattle.layout.specs.Memory.{Whole}
 use Rattle.board.specs.Lists.{After, boardAfter}
 
 -- FOR EVERY LIST OF COMMANDS
-module _ (ms : List Member) (s : State) (after : After ms s) where
+module _ (ms : List Member) (s : Whole) (after : After ms s) where
   abbrev B : Board
   B = boardAfter ms
 
   abbrev cause : ℕ → ℕ → ℕ
-  cause = causeOf (s .slots)
+  cause = causeOf (s .state .slots)
 
   abbrev killer : ℕ → ℕ → ℕ
-  killer = killerOf (s .killers)
+  killer = killerOf (s .state .killers)
 
   known : Recorded B cause killer
   known = runs-represent ms s after .1 .stored .recorded
@@ -65,7 +70,22 @@ module _ (ms : List Member) (s : State) (after : After ms s) where
   pub largest : (c t : ℕ) → Open B cause c t ↔ Viable B c t
   largest = demand-3 ms s after .viable
 
+  -- THE SUMMARY, after every list (SCOPE 2.9): the table has 32 records, and each is its call's,
+  pub current : Current B (s .table)
+  current = runs-represent ms s after .2
+
+  -- which is all zeros where the board has no such call,
+  pub absent : (c : ℕ) → length (B .counts) ≤ c → c < recordsLength → getD (s .table) c noSummary ≡ noSummary
+  absent c none lc = current .each c lc ∙ absent-zero B (runs-represent ms s after .0 .board) c none lc
+
+  -- and the open slots of the whole board, O of the sheet (SCOPE 7.11), are the sum over the records and the count over the slot bytes
+  pub total-records : openTotal B ≡ openSum (s .table)
+  total-records = total-of-records B (s .table) current
+
+  pub total-bytes : openTotal B ≡ slotCount (open? (s .state .slots))
+  total-bytes = total-of-bytes (run fresh ms) (s .state) (runs-represent ms s after .1)
+
 -- OF TWO LISTS (SCOPE 6.14): with the same calls and counts, and at least the same rules after the second, each slot open after it is open after the first
-pub more-rules-fewer-open : (ms ms′ : List Member) (s s′ : State) → After ms s → After ms′ s′ → AtLeast (boardAfter ms) (boardAfter ms′) → (c t : ℕ)
-    → Open (boardAfter ms′) (causeOf (s′ .slots)) c t → Open (boardAfter ms) (causeOf (s .slots)) c t
+pub more-rules-fewer-open : (ms ms′ : List Member) (s s′ : Whole) → After ms s → After ms′ s′ → AtLeast (boardAfter ms) (boardAfter ms′) → (c t : ℕ)
+    → Open (boardAfter ms′) (causeOf (s′ .state .slots)) c t → Open (boardAfter ms) (causeOf (s .state .slots)) c t
 more-rules-fewer-open ms ms′ s s′ after after′ = demand-3-two ms ms′ s s′ after after′

@@ -7,12 +7,12 @@ use borrow.Author.Tests.{eq-eqb}
 use Rattle.model.specs.declared.answer.Answer.{Answer}
 use Rattle.model.specs.Promise.{Promise}
 use Rattle.model.specs.Lists.{standing, Entered}
-use Rattle.layout.specs.Memory.{State, lentOf}
+use Rattle.layout.specs.Memory.{Whole, lentWith}
 
-standing-all : (own left : List ℕ) → standing own own left ≡ left
+standing-all : {A : Type 0} (own left : List A) → standing own own left ≡ left
 standing-all own left = rw (eq-eqb (length own) (length own) refl) refl
 
-pub entered-by : (s : State) (bytes : List ℕ) (given : Answer) (after : State) → Promise s bytes given after → Entered (record { bytes = bytes; lent = lentOf s }) s after
+pub entered-by : (s : Whole) (bytes : List ℕ) (given : Answer) (after : Whole) → Promise s bytes given after → Entered (record { bytes = bytes; lent = lentWith s }) s after
 entered-by s bytes given after promise =
     record {
       handed = s;
@@ -23,6 +23,12 @@ entered-by s bytes given after promise =
       rows = λ e. refl;
       killers = λ e. refl;
       slots = λ e. refl;
+      table = λ e. refl;
       promise = promise;
-      stands = rw (standing-all (s .rows) (after .rows), standing-all (s .killers) (after .killers), standing-all (s .slots) (after .slots)) refl;
+      stands = rw (
+        standing-all (s .state .rows) (after .state .rows),
+        standing-all (s .state .killers) (after .state .killers),
+        standing-all (s .state .slots) (after .state .slots),
+        standing-all (s .table) (after .table),
+      ) refl;
     }

@@ -1,31 +1,45 @@
--- A FILE IS TAKEN COMMAND BY COMMAND: those that were entered and those that are left stay all of the file's, and after the last round none is left. Assumes nothing.
+-- A FILE IS TAKEN COMMAND BY COMMAND: those that were entered and those that are left stay all of the file's, and after the last round none is left. The records that are
+-- counted then are those that the commands would have left one by one. Assumes nothing.
 use mathlib.Core.Path.{_≡_, refl, sym, ap, subst, _∙_}
 use mathlib.Core.Bool.{Bool, true, false, cond}
 use mathlib.Core.List.{List, [], _∷_, _++_, map, append-assoc, append-nil}
+use mathlib.Core.Logic.{_≢_}
 use Prim.Native.Nat.{ℕ, zero, suc, _+_, _≤_, _<_}
 use native.Mathlib.Omega.{arith}
 use lib.ListN.{length, getD, length-append}
 use lib.Dec.{leb, ltb}
-use borrow.Author.Tests.{leb-true, le-leb}
+use borrow.Author.Tests.{leb-true, le-leb, eq-eqb, ne-eqb}
 use Rattle.model.specs.declared.answer.Answer.{Answer}
 use Rattle.model.specs.declared.command.Command.{Command}
 use Rattle.model.specs.declared.command.Read.{Read}
 use Rattle.model.specs.declared.command.Read.the-variants as found
 use Rattle.model.specs.declared.command.Decoded.{Decoded}
 use Rattle.model.specs.Commands.{isKind, bodySize, commandAt, countsAt, without, readAt}
-use Rattle.model.specs.Ledger.{Member, member}
-use Rattle.model.specs.Promise.{Promise}
+use Rattle.model.specs.declared.answer.Answer.the-variants as answer
+use Rattle.model.specs.Tests.{upFrom}
+use Rattle.model.specs.Ledger.{Member, fresh, run, lengths, member}
+use Rattle.model.specs.Promise.{MemoryPromise, Promise}
 use Rattle.model.specs.Lists.{Runs, done, then, Entered}
 use Rattle.model.specs.Sheet.{inputMost}
 use Rattle.model.specs.Numbers as refused
-use Rattle.layout.specs.Bounds.{Sizes}
-use Rattle.layout.specs.Memory.{State, lentOf, freshState}
-use Rattle.layout.specs.Sizes.{Lent, badLent?, killersLength, rowsLength, slotsLength}
+use Rattle.model.specs.Laws.Lists.{is-lengths, runs-represent}
+use Rattle.model.specs.Laws.Summary.{current-one}
+use Rattle.summary_counts.specs.Counted.{Counted, countedRecord}
+use Rattle.summary_counts.specs.Laws.Counted.{counted-current}
+use Rattle.layout.specs.declared.value.Value.{Value}
+use Rattle.layout.specs.declared.value.Heads.{Heads}
+use Rattle.layout.specs.declared.summary.Summary.{Summary}
+use Rattle.layout.specs.Summary.{noSummary, noRecords, noTable}
+use Rattle.layout.specs.Memory.{State, Whole, stateOf, wholeOf, lentOf, lentWith}
+use Rattle.layout.specs.Value.{freshValue}
+use Rattle.layout.specs.Sizes.{CommandLent, badLent?, badTable?, killersLength, rowsLength, slotsLength, recordsLength}
+use Rattle.layout.specs.Laws.Memory.{filled-is}
 use Rattle.board.specs.declared.file.Position.{Position}
 use Rattle.board.specs.Lists.{After}
-use Rattle.board.specs.Fresh.{FreshPromise}
-use Rattle.board.specs.Replay.{partOf, commandsBy, commandsFrom, fileCommands, endBy, endFrom, fileEnd, ReplayPromise, IsFresh, CommandTaken, FileEnded, TakenBy, Taken, InFile, TakenTo, FileTaken}
+use Rattle.board.specs.Store.{Stores}
+use Rattle.board.specs.Replay.{partOf, commandsBy, commandsFrom, fileCommands, endBy, endFrom, fileEnd, ReplayPromise, FreshPromise, FreshBuffers, IsFresh, CommandTaken, FileEnded, TakenBy, Taken, TakenTo, FileTaken, FileCounted}
 use Rattle.board.specs.Laws.Lists.{entered-by}
+use Rattle.board.specs.Laws.Store.{promise-whole, stores-none, stores-all}
 
 -- AT THE END there is no command, and nothing is refused
 commands-end : (n : ℕ) (s : List ℕ) (at : ℕ) → length s ≤ at → commandsFrom n s at ≡ []
@@ -65,23 +79,14 @@ decoded-inside s at d is c e =
 
 -- ONE ROUND OF THE CODE, at which d was read
 module _ (file : List ℕ) (p : Position) (before : State) (d : Decoded) (is : d ≡ readAt file (p .at)) (q : Position) where
-  -- on buffers of the right lengths the entry's promise makes a command one of a list
   pub taken-command : (after : State) (c : Command) → d .read ≡ found.Command c → q .at ≡ d .next → q .ran ≡ p .ran + 1 → q .number ≡ 0 → (given : Answer)
-      → Sizes (before .rows) (before .killers) (before .slots) → Promise before (partOf file (p .at) (d .next)) given after → Taken file p before q after
-  taken-command after c e place count end given z promise =
+      → MemoryPromise lengths before (partOf file (p .at) (d .next)) given after → Taken file p before q after
+  taken-command after c e place count end given promise =
       record {
         by = subst (λ (x : Decoded). TakenBy (x .read) (x .next) file p before q after) is
-            (subst (λ (r : Read). TakenBy r (d .next) file p before q after) (sym e) (record { place = place; count = count; end = end; entered = entered }));
+            (subst (λ (r : Read). TakenBy r (d .next) file p before q after) (sym e)
+            (record { place = place; count = count; end = end; given = given; promise = promise }));
       }
-    where
-      lengths : lentOf before ≡ record { rows = rowsLength; killers = killersLength; slots = slotsLength }
-      lengths = let r = z .rows-size in let k = z .killers-size in let s = z .slots-size in cc
-
-      bytes : List ℕ
-      bytes = partOf file (p .at) (d .next)
-
-      entered : Entered (member bytes) before after
-      entered = subst (λ (l : Lent). Entered (record { bytes = bytes; lent = l }) before after) lengths (entered-by before bytes given after promise)
 
   pub taken-refused : (k n : ℕ) → d .read ≡ found.Refused k n → q .at ≡ length file → q .ran ≡ p .ran → q .number ≡ n → Taken file p before q before
   taken-refused k n e place count end =
@@ -103,7 +108,8 @@ unfolding fileCommands fileEnd
 taken-none file p s place count end fresh =
     record {
       taken = [];
-      stands = subst (λ (x : State). After [] x) (sym (fresh .is)) done;
+      table = noRecords;
+      stands = subst (λ (x : State). After [] (wholeOf x noRecords)) (sym (fresh .is)) done;
       count = count;
       few = omega arith;
       inside = omega arith;
@@ -114,8 +120,38 @@ taken-none file p s place count end fresh =
       over = λ h. end ∙ sym (ends-well (length file) file 0 (omega arith));
     }
 
+-- A COMMAND OF A FILE LEAVES A TABLE, though it is not made: the records of the heads and slot bytes that are left, where it is accepted
+at-place : {A : Type 0} (f : ℕ → A) (d : A) (i n c : ℕ) {j : ℕ} → c < n → j ≡ i + c → getD (map f (upFrom i n)) c d ≡ f j
+at-place f d i (suc n) zero {j} h e = let same : i ≡ j = omega arith in ap f same
+at-place f d i (suc n) (suc c) h e = at-place f d (suc i) n c (omega arith) (omega arith)
+at-place f d i zero c h e = absurd (omega arith)
+
+all-places : {A : Type 0} (f : ℕ → A) (i n : ℕ) → length (map f (upFrom i n)) ≡ n
+all-places f i zero = refl
+all-places f i (suc n) = ap suc (all-places f (suc i) n)
+
+abbrev countedTable : Heads → List ℕ → List Summary
+countedTable heads slots = map (countedRecord heads slots) (upFrom 0 recordsLength)
+
+counted-table : (heads : Heads) (slots : List ℕ) → Counted heads slots (countedTable heads slots)
+counted-table heads slots =
+    record { size = all-places (countedRecord heads slots) 0 recordsLength; each = λ c lc. at-place (countedRecord heads slots) noSummary 0 recordsLength c lc (omega arith) }
+
+abbrev tableAfter : Answer → State → List Summary → List Summary
+tableAfter (answer.Accepted r) after old = countedTable (after .value .heads) (after .slots)
+tableAfter (answer.Refused n) after old = old
+
+taken-whole : (s after : State) (bytes : List ℕ) (given : Answer) (old : List Summary) → lentWith (wholeOf s old) ≡ lengths → MemoryPromise lengths s bytes given after
+    → Promise (wholeOf s old) bytes given (wholeOf after (tableAfter given after old))
+taken-whole s after bytes (answer.Accepted r) old lent promise =
+    let new = countedTable (after .value .heads) (after .slots) in
+    promise-whole s after bytes (answer.Accepted r) old new lent promise (λ m d. let z : _≡_ {A = ℕ} 0 1 = cc in absurd (omega arith))
+    (λ z L shape rep. counted-current L after shape rep new (counted-table (after .value .heads) (after .slots)))
+taken-whole s after bytes (answer.Refused n) old lent promise =
+    promise-whole s after bytes (answer.Refused n) old old lent promise (λ m d. refl) (λ z. absurd (promise .never-zero (ap answer.Refused z)))
+
 -- one command more at the end of a list
-runs-more : {s s′ s″ : State} {ms : List Member} {m : Member} → Runs State Member Entered s ms s′ → Entered m s′ s″ → Runs State Member Entered s (ms ++ (m ∷ [])) s″
+runs-more : {s s′ s″ : Whole} {ms : List Member} {m : Member} → Runs Whole Member Entered s ms s′ → Entered m s′ s″ → Runs Whole Member Entered s (ms ++ (m ∷ [])) s″
 runs-more done e = then e done
 runs-more (then first rest) e = then first (runs-more rest e)
 
@@ -130,7 +166,8 @@ module _ (file : List ℕ) (p q : Position) (before after : State) (t : TakenTo 
     omega (arith, by .place),
     record {
       taken = t .taken;
-      stands = subst (λ (s : State). After (map member (t .taken)) s) (sym (by .same)) (t .stands);
+      table = t .table;
+      stands = subst (λ (s : State). After (map member (t .taken)) (wholeOf s (t .table))) (sym (by .same)) (t .stands);
       count = by .count ∙ t .count;
       few = omega (arith, by .place, by .count, t .few);
       inside = omega (arith, by .place);
@@ -146,6 +183,17 @@ module _ (file : List ℕ) (p q : Position) (before after : State) (t : TakenTo 
     abbrev bytes : List ℕ
     bytes = partOf file (p .at) (d .next)
 
+    -- what stood is the ledger's, so its lengths are right, and the command is entered on it
+    stood : lentWith (wholeOf before (t .table)) ≡ lengths
+    stood = is-lengths (run fresh (map member (t .taken))) (wholeOf before (t .table)) (runs-represent (map member (t .taken)) (wholeOf before (t .table)) (t .stands))
+
+    entered : (by : CommandTaken (d .next) file p before q after) → Entered (member bytes) (wholeOf before (t .table)) (wholeOf after (tableAfter (by .given) after (t .table)))
+    entered by =
+        let w = wholeOf before (t .table) in
+        let w′ = wholeOf after (tableAfter (by .given) after (t .table)) in
+        subst (λ (l : CommandLent). Entered (record { bytes = bytes; lent = l }) w w′) stood
+        (entered-by w bytes (by .given) w′ (taken-whole before after bytes (by .given) (t .table) stood (by .promise)))
+
     more : (c : Command) → d .read ≡ found.Command c → CommandTaken (d .next) file p before q after → t .taken ++ (bytes ∷ commandsFrom n file (d .next)) ≡ fileCommands file
         → endFrom n file (d .next) ≡ fileEnd file → (p .at < q .at) × TakenTo file q after
     more c e by all end =
@@ -154,7 +202,9 @@ module _ (file : List ℕ) (p q : Position) (before after : State) (t : TakenTo 
           omega (arith, by .place),
           record {
             taken = t .taken ++ (bytes ∷ []);
-            stands = subst (λ (ms : List Member). After ms after) (sym (members-more (t .taken) bytes)) (runs-more (t .stands) (by .entered));
+            table = tableAfter (by .given) after (t .table);
+            stands = subst (λ (ms : List Member). After ms (wholeOf after (tableAfter (by .given) after (t .table)))) (sym (members-more (t .taken) bytes))
+                (runs-more (t .stands) (entered by));
             count = by .count ∙ ap (λ (k : ℕ). k + 1) (t .count) ∙ sym (length-append (t .taken) (bytes ∷ []));
             few = omega (arith, by .place, by .count, t .few);
             inside = omega (arith, by .place);
@@ -187,7 +237,8 @@ module _ (file : List ℕ) (p q : Position) (before after : State) (t : TakenTo 
 pub file-taken : (file : List ℕ) (p : Position) (s : State) → TakenTo file p s → length file ≤ p .at → FileTaken file (p .number) (p .ran) s
 file-taken file p s t last =
     record {
-      stands = subst (λ (l : List (List ℕ)). After (map member l) s) whole (t .stands);
+      table = t .table;
+      stands = subst (λ (l : List (List ℕ)). After (map member l) (wholeOf s (t .table))) whole (t .stands);
       count = t .count ∙ ap length whole;
       end = t .over last;
     }
@@ -196,39 +247,120 @@ file-taken file p s t last =
     whole =
         sym (append-nil (t .taken)) ∙ ap (λ (l : List (List ℕ)). t .taken ++ l) (sym (commands-end (t .most) file (p .at) last)) ∙ t .all
 
--- THE WHOLE: the memory was made fresh,
-pub fresh-is : (before : State) (given : Answer) (after : State) → FreshPromise before given after → badLent? (lentOf before) ≡ false → IsFresh after
-fresh-is before given after f good = record { is = f .state ∙ rw good refl }
+-- the records that are counted then are those that the commands left: a board has one current table
+pub file-counted : (file : List ℕ) (number ran : ℕ) (s : State) (records : List Summary) → FileTaken file number ran s → Counted (s .value .heads) (s .slots) records
+    → FileCounted file number ran recordsLength (wholeOf s records)
+file-counted file number ran s records t counted =
+    record { stands = subst (λ (l : List Summary). After ms (wholeOf s l)) same (t .stands); count = t .count; end = t .end; all = refl }
+  where
+    ms : List Member
+    ms = map member (fileCommands file)
 
--- or the file was refused 1 or 2
-module _ (before : State) (file : List ℕ) where
-  pub replay-lengths : badLent? (lentOf before) ≡ true → ReplayPromise before file refused.bufferLength 0 before
+    same : t .table ≡ records
+    same =
+        let is = runs-represent ms (wholeOf s (t .table)) (t .stands) in
+        current-one (run fresh ms .board) (t .table) records (is .2) (counted-current (run fresh ms) s (is .0) (is .1) records counted)
+
+-- THE WHOLE: the memory was made fresh,
+same-buffers : (value : Value) (rows rows′ killers killers′ slots slots′ : List ℕ) → rows ≡ rows′ → killers ≡ killers′ → slots ≡ slots′
+    → stateOf value rows killers slots ≡ stateOf value rows′ killers′ slots′
+same-buffers value rows rows′ killers killers′ slots slots′ r k s = cc
+
+pub fresh-is : (rows killers slots : List ℕ) → FreshBuffers rows killers slots → IsFresh (stateOf freshValue rows killers slots)
+fresh-is rows killers slots f =
+    record {
+      is = same-buffers freshValue rows _ killers _ slots _ (filled-is rowsLength 255 rows (f .rows-filled)) (filled-is killersLength 255 killers (f .killers-filled))
+          (filled-is slotsLength 254 slots (f .slots-filled));
+    }
+
+-- or the file was refused 1, 22 or 2, on the state s with a table of n records
+module _ (s : State) (file : List ℕ) (n : ℕ) where
+  abbrev Kept : ℕ → ℕ → State → List Summary → List Summary → Type 0
+  Kept number ran after old new = ReplayPromise (wholeOf s old) file number ran (wholeOf after new)
+
+  pub replay-lengths : badLent? (lentOf s) ≡ true → Stores (Kept refused.bufferLength 0 s) n 0 (noTable .records)
   replay-lengths bad =
+      stores-none
+      (λ old size.
       record {
         number-is = rw bad refl;
-        unchanged = λ n e. refl;
-        none-ran = λ n e. refl;
+        unchanged = λ m e. refl;
+        none-ran = λ m e. refl;
         stands = λ e. let z = rw bad at e in absurd (omega arith);
         all-ran = λ e. let z = rw bad at e in absurd (omega arith);
-      }
+      })
 
-  module _ (good : badLent? (lentOf before) ≡ false) where
-    pub replay-long : ltb inputMost (length file) ≡ true → ReplayPromise before file refused.fileLength 0 before
-    replay-long long =
+  module _ (good : badLent? (lentOf s) ≡ false) where
+    pub replay-table : n ≢ recordsLength → Stores (Kept refused.tableLength 0 s) n 0 (noTable .records)
+    replay-table other =
+        stores-none
+        (λ old size.
+        let bad : badTable? (lentWith (wholeOf s old)) ≡ true = rw (size, ne-eqb n recordsLength other) refl in
         record {
-          number-is = rw (good, long) refl;
-          unchanged = λ n e. refl;
-          none-ran = λ n e. refl;
-          stands = λ e. let z = rw (good, long) at e in absurd (omega arith);
-          all-ran = λ e. let z = rw (good, long) at e in absurd (omega arith);
+          number-is = rw (good, bad) refl;
+          unchanged = λ m e. refl;
+          none-ran = λ m e. refl;
+          stands = λ e. let z = rw (good, bad) at e in absurd (omega arith);
+          all-ran = λ e. let z = rw (good, bad) at e in absurd (omega arith);
+        })
+
+    module _ (right : n ≡ recordsLength) where
+      table-right : (old : List Summary) → length old ≡ n → badTable? (lentWith (wholeOf s old)) ≡ false
+      table-right old size = rw (size, eq-eqb n recordsLength right) refl
+
+      pub replay-long : ltb inputMost (length file) ≡ true → Stores (Kept refused.fileLength 0 s) n 0 (noTable .records)
+      replay-long long =
+          stores-none
+          (λ old size.
+          let fits = table-right old size in
+          record {
+            number-is = rw (good, fits, long) refl;
+            unchanged = λ m e. refl;
+            none-ran = λ m e. refl;
+            stands = λ e. let z = rw (good, fits, long) at e in absurd (omega arith);
+            all-ran = λ e. let z = rw (good, fits, long) at e in absurd (omega arith);
+          })
+
+      pub replay-file : (number ran count : ℕ) (after : State) (records : List Summary) → ltb inputMost (length file) ≡ false
+          → FileCounted file number ran count (wholeOf after records) → Stores (Kept number ran after) n count records
+      replay-file number ran count after records short t =
+          let current = runs-represent (map member (fileCommands file)) (wholeOf after records) (t .stands) .2 in
+          subst (λ (k : ℕ). Stores (Kept number ran after) n k records) (sym (t .all))
+          (stores-all right (current .size)
+          (λ old size.
+          let fits = table-right old (size ∙ sym right) in
+          record {
+            number-is = rw (good, fits, short) (t .end);
+            unchanged = λ m e. let z = rw (good, fits, short) at e in absurd (omega arith);
+            none-ran = λ m e. let z = rw (good, fits, short) at e in absurd (omega arith);
+            stands = λ e. t .stands;
+            all-ran = λ e. t .count;
+          }))
+
+-- A FILE WITHOUT COMMANDS MAKES A FRESH BOARD (SCOPE 2.8), whatever the memory held
+stays : {s s′ : Whole} → Runs Whole Member Entered s [] s′ → s′ ≡ s
+stays done = refl
+
+pub empty-file-fresh : (before after : Whole) (number ran : ℕ) → ReplayPromise before [] number ran after → FreshPromise before number after
+unfolding fileCommands fileEnd
+empty-file-fresh before after number ran promise = go (badLent? (lentWith before .buffers)) (badTable? (lentWith before)) refl refl
+  where
+    go : (b t : Bool) → badLent? (lentWith before .buffers) ≡ b → badTable? (lentWith before) ≡ t → FreshPromise before number after
+    go true t bad e =
+        record {
+          number-is = promise .number-is ∙ rw bad refl;
+          unchanged = λ m d. promise .unchanged 0 (rw bad refl);
+          made = λ d. let z = promise .number-is in let z′ = rw bad at z in absurd (omega arith);
         }
-
-    pub replay-file : (number ran : ℕ) (after : State) → ltb inputMost (length file) ≡ false → FileTaken file number ran after → ReplayPromise before file number ran after
-    replay-file number ran after short t =
+    go false true good bad =
         record {
-          number-is = rw (good, short) (t .end);
-          unchanged = λ n e. let z = rw (good, short) at e in absurd (omega arith);
-          none-ran = λ n e. let z = rw (good, short) at e in absurd (omega arith);
-          stands = λ e. t .stands;
-          all-ran = λ e. t .count;
+          number-is = promise .number-is ∙ rw (good, bad) refl;
+          unchanged = λ m d. promise .unchanged 21 (rw (good, bad) refl);
+          made = λ d. let z = promise .number-is in let z′ = rw (good, bad) at z in absurd (omega arith);
+        }
+    go false false good right =
+        record {
+          number-is = promise .number-is ∙ rw (good, right) refl;
+          unchanged = λ m d. let z = promise .number-is in let z′ = rw (good, right) at z in absurd (omega arith);
+          made = λ d. stays (promise .stands (rw (good, right) refl));
         }

@@ -1,11 +1,9 @@
 -- How each kind keeps its promise, and how the entry's promise follows from it. Assumes nothing.
 use mathlib.Core.Path.{_≡_, refl, sym, ap, subst, _∙_}
-use mathlib.Core.Bool.{false}
 use mathlib.Core.List.{List}
 use Prim.Native.Nat.{ℕ, zero, suc, _≤_}
 use native.Mathlib.Omega.{arith}
 use lib.ListN.{length}
-use borrow.Author.Tests.{eq-eqb}
 use Rattle.model.specs.declared.answer.Report.{Report}
 use Rattle.model.specs.declared.answer.Answer.{Answer}
 use Rattle.model.specs.declared.command.Command.{Command}
@@ -13,15 +11,13 @@ use Rattle.model.specs.declared.command.Command.the-variants as kind
 use Rattle.model.specs.declared.command.Read.the-variants as found
 use Rattle.model.specs.declared.command.Decoded.{Decoded}
 use Rattle.model.specs.Commands.{kindOf, readAt}
-use Rattle.model.specs.Ledger.{Ledger, kindConditions, effect, obey, fresh}
+use Rattle.model.specs.Ledger.{Ledger, kindConditions, effect, obey, fresh, lengths}
 use Rattle.model.specs.Representation.{Represents}
-use Rattle.model.specs.Promise.{numberOf, Obeyed, KindPromise, Promise}
+use Rattle.model.specs.Promise.{numberOf, Obeyed, KindPromise, MemoryPromise}
 use Rattle.model.specs.Laws.Answers.{refused-by, never-zero-by}
 use Rattle.model.specs.Laws.Entry.{well-formed, kind-promise}
 use Rattle.command_board.specs.Made.{MakesBoard}
-use Rattle.layout.specs.Bounds.{Sizes}
-use Rattle.layout.specs.Memory.{State, lentOf}
-use Rattle.layout.specs.Sizes.{badLent?, killersLength, rowsLength, slotsLength}
+use Rattle.layout.specs.Memory.{State}
 use Rattle.command_obey.specs.Obeys.{Obeys}
 use Rattle.model.specs.Refusals.{firstOf}
 
@@ -61,16 +57,10 @@ board-obeys {before} {after} {c} {ns} {given} is m =
         go zero e made = made refl
         go (suc k) e made = subst (λ (s : State). Represents L s) (sym (m .refused (suc k) (refused-by given k e))) rep
 
--- buffers of these lengths are not refused
-pub right-lengths : {rows killers slots : List ℕ} → Sizes rows killers slots
-    → badLent? (record { rows = length rows; killers = length killers; slots = length slots }) ≡ false
-right-lengths {rows} {killers} {slots} z =
-    rw (eq-eqb (length rows) rowsLength (z .rows-size), eq-eqb (length killers) killersLength (z .killers-size), eq-eqb (length slots) slotsLength (z .slots-size)) refl
-
--- THE ENTRY'S PROMISE from a command that was read whole, as d at the first byte, with nothing left over, and obeyed
-pub obeys-promise : {s after : State} {bytes : List ℕ} {c : Command} {given : Answer} (d : Decoded) → badLent? (lentOf s) ≡ false → d ≡ readAt bytes 0
-    → d .read ≡ found.Command c → length bytes ≤ d .next → Obeys s c (d .counts) given after → Promise s bytes given after
-obeys-promise {s} {after} {bytes} {c} {given} d good decoded is whole o =
+-- THE ENTRY'S PROMISE OF VALUE AND BUFFERS from a command that was read whole, as d at the first byte, with nothing left over, and obeyed: the lengths are right
+pub obeys-promise : {s after : State} {bytes : List ℕ} {c : Command} {given : Answer} (d : Decoded) → d ≡ readAt bytes 0
+    → d .read ≡ found.Command c → length bytes ≤ d .next → Obeys s c (d .counts) given after → MemoryPromise lengths s bytes given after
+obeys-promise {s} {after} {bytes} {c} {given} d decoded is whole o =
     let read : readAt bytes 0 .read ≡ found.Command c = ap (λ (x : Decoded). x .read) (sym decoded) ∙ is in
     let same = subst (λ (x : Decoded). Obeys s c (x .counts) given after) decoded o in
-    kind-promise s bytes c given after read (well-formed s bytes good d decoded c is whole) (same .promise) (same .made)
+    kind-promise lengths s bytes c given after read (well-formed lengths s bytes refl refl d decoded c is whole) (same .promise) (same .made)

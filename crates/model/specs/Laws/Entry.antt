@@ -18,10 +18,10 @@ use Rattle.model.specs.declared.command.Decoded.{Decoded}
 use Rattle.model.specs.Commands.{isKind, bodySize, commandAt, countsAt, without, readAt}
 use Rattle.model.specs.Ledger.{Ledger, lentConditions, formConditions, ownConditions, kindConditions, earlyConditions, refusal, obey, step}
 use Rattle.model.specs.Representation.{Represents}
-use Rattle.model.specs.Promise.{valuesAt, reportValues, ReportsOf, Answered, Obeyed, KindPromise, BoardMade, Promise}
+use Rattle.model.specs.Promise.{valuesAt, reportValues, ReportsOf, Answered, Obeyed, KindPromise, BoardMade, MemoryPromise, Promise}
 use Rattle.model.specs.Laws.Refusals.{first-stands, rest-decides}
-use Rattle.layout.specs.Memory.{State, lentOf}
-use Rattle.layout.specs.Sizes.{badLent?}
+use Rattle.layout.specs.Memory.{State, Whole, lentWith}
+use Rattle.layout.specs.Sizes.{CommandLent, badLent?, badTable?}
 use Rattle.model.specs.Refusals.{firstOf, isRefusal}
 use Rattle.model.specs.Numbers as refused
 
@@ -47,17 +47,22 @@ read-number s at k n = go (leb (length s) at) (isKind (getD s at 0)) (leb (at + 
     go false false c e = let z : n ≡ refused.unknownKind = cc in rw z tt
 
 -- the refusals by lengths and by form, as the entry gives them
-module _ (s : State) (bytes : List ℕ) where
-  pub early-lengths : badLent? (lentOf s) ≡ true → firstOf (earlyConditions (lentOf s) bytes) ≡ refused.bufferLength
+module _ (lent : CommandLent) (bytes : List ℕ) where
+  early-lengths : badLent? (lent .buffers) ≡ true → firstOf (earlyConditions lent bytes) ≡ refused.bufferLength
   early-lengths bad = rw bad refl
 
-  pub early-form : badLent? (lentOf s) ≡ false → firstOf (earlyConditions (lentOf s) bytes) ≡ firstOf (formConditions (readAt bytes 0 .read) (ltb (readAt bytes 0 .next) (length bytes)))
-  early-form good = rw good refl
+  early-table : badLent? (lent .buffers) ≡ false → badTable? lent ≡ true → firstOf (earlyConditions lent bytes) ≡ refused.tableLength
+  early-table good bad = rw (good, bad) refl
+
+  early-form : badLent? (lent .buffers) ≡ false → badTable? lent ≡ false
+      → firstOf (earlyConditions lent bytes) ≡ firstOf (formConditions (readAt bytes 0 .read) (ltb (readAt bytes 0 .next) (length bytes)))
+  early-form good right = rw (good, right) refl
 
 -- REFUSED FOR LENGTHS OR FORM
-refused-promise : (s : State) (bytes : List ℕ) (n : ℕ) → T (isRefusal n) → firstOf (earlyConditions (lentOf s) bytes) ≡ n → Promise s bytes (answer.Refused n) s
-refused-promise s bytes zero t e = absurd t
-refused-promise s bytes (suc n) t e =
+refused-promise : (lent : CommandLent) (s : State) (bytes : List ℕ) (n : ℕ) → T (isRefusal n) → firstOf (earlyConditions lent bytes) ≡ n
+    → MemoryPromise lent s bytes (answer.Refused n) s
+refused-promise lent s bytes zero t e = absurd t
+refused-promise lent s bytes (suc n) t e =
     record {
       early = λ m d. sym e ∙ d;
       refused = λ m d. refl;
@@ -66,13 +71,13 @@ refused-promise s bytes (suc n) t e =
       answered = λ L shape rep. answered L rep;
     }
   where
-    whole : (L : Ledger) → refusal L (lentOf s) bytes ≡ suc n
-    whole L = first-stands (earlyConditions (lentOf s) bytes) (ownConditions L (readAt bytes 0 .read) (readAt bytes 0 .counts)) n e
+    whole : (L : Ledger) → refusal L lent bytes ≡ suc n
+    whole L = first-stands (earlyConditions lent bytes) (ownConditions L (readAt bytes 0 .read) (readAt bytes 0 .counts)) n e
 
-    alone : (L : Ledger) → step L (lentOf s) bytes ≡ L
+    alone : (L : Ledger) → step L lent bytes ≡ L
     alone L = ap (λ (m : ℕ). obey m L (readAt bytes 0 .read) (readAt bytes 0 .counts)) (whole L)
 
-    answered : (L : Ledger) → Represents L s → Answered L s bytes (answer.Refused (suc n)) s
+    answered : (L : Ledger) → Represents L s → Answered lent L s bytes (answer.Refused (suc n)) s
     answered L rep =
         record {
           report = record { struck = 0; reopened = 0; touched = 0 };
@@ -82,46 +87,50 @@ refused-promise s bytes (suc n) t e =
           represents = subst (λ (K : Ledger). Represents K s) (sym (alone L)) rep;
         }
 
--- the four refusals that the entry gives by itself, as it comes upon them
-module _ (s : State) (bytes : List ℕ) where
-  pub refused-lengths : badLent? (lentOf s) ≡ true → Promise s bytes (answer.Refused refused.bufferLength) s
-  refused-lengths bad = refused-promise s bytes refused.bufferLength tt (early-lengths s bytes bad)
+-- the five refusals that the entry gives by itself, as it comes upon them
+module _ (lent : CommandLent) (s : State) (bytes : List ℕ) where
+  pub refused-lengths : badLent? (lent .buffers) ≡ true → MemoryPromise lent s bytes (answer.Refused refused.bufferLength) s
+  refused-lengths bad = refused-promise lent s bytes refused.bufferLength tt (early-lengths lent bytes bad)
+
+  pub refused-table : badLent? (lent .buffers) ≡ false → badTable? lent ≡ true → MemoryPromise lent s bytes (answer.Refused refused.tableLength) s
+  refused-table good bad = refused-promise lent s bytes refused.tableLength tt (early-table lent bytes good bad)
 
   -- of d, which was read at the first byte
-  module _ (good : badLent? (lentOf s) ≡ false) (d : Decoded) (decoded : d ≡ readAt bytes 0) where
-    early-read : (r : Read) → d .read ≡ r → firstOf (earlyConditions (lentOf s) bytes) ≡ firstOf (formConditions r (ltb (d .next) (length bytes)))
+  module _ (good : badLent? (lent .buffers) ≡ false) (right : badTable? lent ≡ false) (d : Decoded) (decoded : d ≡ readAt bytes 0) where
+    early-read : (r : Read) → d .read ≡ r → firstOf (earlyConditions lent bytes) ≡ firstOf (formConditions r (ltb (d .next) (length bytes)))
     early-read r is =
-        early-form s bytes good
+        early-form lent bytes good right
         ∙ ap (λ (x : Decoded). firstOf (formConditions (x .read) (ltb (x .next) (length bytes)))) (sym decoded)
         ∙ ap (λ (x : Read). firstOf (formConditions x (ltb (d .next) (length bytes)))) is
 
-    pub refused-end : d .read ≡ found.End → Promise s bytes (answer.Refused refused.unknownKind) s
-    refused-end is = refused-promise s bytes refused.unknownKind tt (early-read found.End is)
+    pub refused-end : d .read ≡ found.End → MemoryPromise lent s bytes (answer.Refused refused.unknownKind) s
+    refused-end is = refused-promise lent s bytes refused.unknownKind tt (early-read found.End is)
 
-    pub refused-read : (k n : ℕ) → d .read ≡ found.Refused k n → Promise s bytes (answer.Refused n) s
+    pub refused-read : (k n : ℕ) → d .read ≡ found.Refused k n → MemoryPromise lent s bytes (answer.Refused n) s
     refused-read k n is =
-        refused-promise s bytes n (read-number bytes 0 k n (ap (λ (x : Decoded). x .read) (sym decoded) ∙ is)) (early-read (found.Refused k n) is)
+        refused-promise lent s bytes n (read-number bytes 0 k n (ap (λ (x : Decoded). x .read) (sym decoded) ∙ is)) (early-read (found.Refused k n) is)
 
     module _ (c : Command) (is : d .read ≡ found.Command c) where
-      pub refused-left-over : d .next < length bytes → Promise s bytes (answer.Refused refused.bodyLength) s
-      refused-left-over more = refused-promise s bytes refused.bodyLength tt (early-read (found.Command c) is ∙ rw (lt-ltb (d .next) (length bytes) more) refl)
+      pub refused-left-over : d .next < length bytes → MemoryPromise lent s bytes (answer.Refused refused.bodyLength) s
+      refused-left-over more = refused-promise lent s bytes refused.bodyLength tt (early-read (found.Command c) is ∙ rw (lt-ltb (d .next) (length bytes) more) refl)
 
       -- and none of them
-      pub well-formed : length bytes ≤ d .next → firstOf (earlyConditions (lentOf s) bytes) ≡ 0
+      pub well-formed : length bytes ≤ d .next → firstOf (earlyConditions lent bytes) ≡ 0
       well-formed whole = early-read (found.Command c) is ∙ rw (le-ltb (d .next) (length bytes) whole) refl
 
 -- LEFT TO THE KIND
-module _ (s : State) (bytes : List ℕ) (c : Command) (given : Answer) (after : State) (is : readAt bytes 0 .read ≡ found.Command c)
-    (passes : firstOf (earlyConditions (lentOf s) bytes) ≡ 0) where
-  own : (L : Ledger) → refusal L (lentOf s) bytes ≡ firstOf (kindConditions L c (readAt bytes 0 .counts))
+module _ (lent : CommandLent) (s : State) (bytes : List ℕ) (c : Command) (given : Answer) (after : State) (is : readAt bytes 0 .read ≡ found.Command c)
+    (passes : firstOf (earlyConditions lent bytes) ≡ 0) where
+  own : (L : Ledger) → refusal L lent bytes ≡ firstOf (kindConditions L c (readAt bytes 0 .counts))
   own L =
       ap (λ (r : Read). firstOf (early r ++ ownConditions L r (readAt bytes 0 .counts))) is
       ∙ rest-decides (early (found.Command c)) (kindConditions L c (readAt bytes 0 .counts)) tt (ap (λ (r : Read). firstOf (early r)) (sym is) ∙ passes)
     where
       early : Read → List (Bool × ℕ)
-      early r = lentConditions (lentOf s) ++ formConditions r (ltb (readAt bytes 0 .next) (length bytes))
+      early r = lentConditions lent ++ formConditions r (ltb (readAt bytes 0 .next) (length bytes))
 
-  pub kind-promise : KindPromise s c (readAt bytes 0 .counts) given after → (c ≡ kind.Board → BoardMade (readAt bytes 0 .counts) given after) → Promise s bytes given after
+  pub kind-promise : KindPromise s c (readAt bytes 0 .counts) given after → (c ≡ kind.Board → BoardMade (readAt bytes 0 .counts) given after)
+      → MemoryPromise lent s bytes given after
   kind-promise promise made =
       record {
         early = λ m d. absurd (omega (arith, passes, d));
@@ -131,7 +140,7 @@ module _ (s : State) (bytes : List ℕ) (c : Command) (given : Answer) (after : 
         answered = λ L shape rep. answered L (promise .obeyed L shape rep);
       }
     where
-      answered : (L : Ledger) → Obeyed L s c (readAt bytes 0 .counts) given after → Answered L s bytes given after
+      answered : (L : Ledger) → Obeyed L s c (readAt bytes 0 .counts) given after → Answered lent L s bytes given after
       answered L o =
           record {
             report = o .report;
@@ -141,7 +150,13 @@ module _ (s : State) (bytes : List ℕ) (c : Command) (given : Answer) (after : 
             represents = subst (λ (K : Ledger). Represents K after) (sym (stepped L)) (o .represents);
           }
         where
-          stepped : (L : Ledger) → step L (lentOf s) bytes ≡ obey (firstOf (kindConditions L c (readAt bytes 0 .counts))) L (found.Command c) (readAt bytes 0 .counts)
+          stepped : (L : Ledger) → step L lent bytes ≡ obey (firstOf (kindConditions L c (readAt bytes 0 .counts))) L (found.Command c) (readAt bytes 0 .counts)
           stepped L =
               ap (λ (m : ℕ). obey m L (readAt bytes 0 .read) (readAt bytes 0 .counts)) (own L)
               ∙ ap (λ (r : Read). obey (firstOf (kindConditions L c (readAt bytes 0 .counts))) L r (readAt bytes 0 .counts)) is
+
+-- THE ENTRY'S PROMISE, of the table too. Refused, everything is as it was
+pub refused-whole : (w : Whole) (bytes : List ℕ) (n : ℕ) → MemoryPromise (lentWith w) (w .state) bytes (answer.Refused n) (w .state)
+    → Promise w bytes (answer.Refused n) w
+refused-whole w bytes n promise =
+    record { state = promise; table-kept = λ m e. refl; current = λ z. absurd (promise .never-zero (ap answer.Refused z)) }

@@ -1,27 +1,34 @@
--- DEMAND 3 (SCOPE 6.12 to 6.15), from what each step keeps. The state after a list is the ledger's, so its records are right, and the rest is theory.
+-- DEMAND 3 (SCOPE 6.12 to 6.15), from what each step keeps. The state after a list is the ledger's, so its records are right, and the rest is theory. The table
+-- after a list is current on the ledger's board (SCOPE 2.9).
 -- Assumes nothing.
 use mathlib.Core.Path.{_≡_, refl, sym, ap, subst, _∙_}
 use mathlib.Core.Bool.{Bool, true, false, cond}
 use mathlib.Core.List.{List}
-use Prim.Native.Nat.{ℕ}
+use Prim.Native.Nat.{ℕ, zero, suc}
 use native.Mathlib.Omega.{arith}
 use lib.ListN.{length}
-use lib.Dec.{eqb}
+use lib.Dec.{eqb, ltb}
 use borrow.Author.Tests.{eqb-true, eq-eqb}
+use Rattle.model.specs.declared.answer.Answer.{Answer}
 use Rattle.model.specs.declared.answer.Answer.the-variants as answer
 use Rattle.model.specs.Board.{Board}
 use Rattle.model.specs.Records.{Recorded}
-use Rattle.model.specs.Ledger.{Ledger, LedgerShape, Member, fresh, step, stepBy, ledgerAfter, run}
+use Rattle.model.specs.Commands.{readAt}
+use Rattle.model.specs.Ledger.{Ledger, LedgerShape, Member, fresh, lentConditions, formConditions, earlyConditions, ownConditions, refusal, obey, step, stepBy, ledgerAfter, run, lengths}
 use Rattle.model.specs.Representation.{Represents}
-use Rattle.model.specs.Promise.{Promise}
-use Rattle.model.specs.Lists.{Runs, done, then, standing, Entered, Demand3, Demand3Two}
+use Rattle.model.specs.Summary.{Current}
+use Rattle.model.specs.Promise.{Answered, Promise}
+use Rattle.model.specs.Lists.{Runs, done, then, standing, standingState, Handed, Entered, Demand3, Demand3Two}
 use Rattle.model.specs.Laws.Theory.{open-viable, struck-caused, row-records, no-ring, escape-from-all, plan-open, viable-mono}
 use Rattle.model.specs.Laws.Answers.{refused-by}
-use Rattle.model.specs.Laws.Shapes.{lent-sizes, shape-step, shape-fresh}
+use Rattle.model.specs.Laws.Refusals.{none-holds, first-stands}
+use Rattle.model.specs.Laws.Shapes.{lent-right, shape-step, shape-fresh}
 use Rattle.model.specs.Laws.Fresh.{fresh-represents}
+use Rattle.model.specs.Laws.Summary.{fresh-current}
 use Rattle.layout.specs.Places.{causeOf, killerOf}
-use Rattle.layout.specs.Memory.{State, lentOf, freshState}
-use Rattle.layout.specs.Sizes.{Lent, badLent?}
+use Rattle.layout.specs.Memory.{State, Whole, wholeOf, lentWith, freshWhole}
+use Rattle.layout.specs.Sizes.{CommandLent}
+use Rattle.model.specs.Refusals.{firstOf}
 use Rattle.model.specs.Numbers as refused
 
 -- a state that is a ledger's has what demand 3 says of one list
@@ -72,97 +79,131 @@ module _ (S M : Type 0) (memory : S → State) (next : Ledger → M → Ledger) 
       let h′ = means (ledgerAfter next fresh ms′) s′ (runs-keep fresh starts ran′) in
       states-demand (ledgerAfter next fresh ms) (ledgerAfter next fresh ms′) (memory s) (memory s′) (h .0) (h .1) (h′ .0) (h′ .1)
 
--- AT RAW BYTES. A buffer that is left as it was handed leaves what stands as it was
-standing-same : (own handed : List ℕ) → (length handed ≡ length own → handed ≡ own) → standing own handed handed ≡ own
-standing-same own handed same = go (eqb (length handed) (length own)) refl
+-- AT RAW BYTES. A whole is a ledger's: the value and the buffers represent it, and the table is current on its board
+abbrev pub IsOf : Ledger → Whole → Type 0
+IsOf L w = LedgerShape L × Represents L (w .state) × Current (L .board) (w .table)
+
+-- its lengths are right
+pub is-lengths : (L : Ledger) (w : Whole) → IsOf L w → lentWith w ≡ lengths
+is-lengths L w is =
+    let r = is .1 .stored .row-bytes .rows-size in
+    let k = is .1 .stored .killers-size in
+    let b = is .1 .stored .slots-size in
+    let n = is .2 .size in
+    cc
+
+-- WHAT THE PROMISE LEAVES of such a whole is the stepped ledger's: accepted, the table is current by the promise; refused, table and ledger are as they were
+pub promise-keeps : (L : Ledger) (s s′ : Whole) (bytes : List ℕ) (given : Answer) → IsOf L s → Promise s bytes given s′ → IsOf (step L (lentWith s) bytes) s′
+promise-keeps L s s′ bytes given is promise = (shape, answered .represents, go (refusal L (lentWith s) bytes) refl)
+  where
+    shape : LedgerShape (step L (lentWith s) bytes)
+    shape = shape-step L (lentWith s) bytes (is .0)
+
+    answered : Answered (lentWith s) L (s .state) bytes given (s′ .state)
+    answered = promise .state .answered L (is .0) (is .1)
+
+    go : (n : ℕ) → refusal L (lentWith s) bytes ≡ n → Current (step L (lentWith s) bytes .board) (s′ .table)
+    go zero e = promise .current (answered .number ∙ e) (step L (lentWith s) bytes) shape (answered .represents)
+    go (suc n) e =
+        let alone : step L (lentWith s) bytes ≡ L = ap (λ (m : ℕ). obey m L (readAt bytes 0 .read) (readAt bytes 0 .counts)) e in
+        let kept = promise .table-kept (suc n) (refused-by given n (answered .number ∙ e)) in
+        rw (alone, kept) (is .2)
+
+-- a buffer or a table that is left as it was handed leaves what stands as it was
+standing-same : {A : Type 0} (own handed : List A) → Handed own handed → standing own handed handed ≡ own
+standing-same {A} own handed same = go (eqb (length handed) (length own)) refl
   where
     go : (b : Bool) → eqb (length handed) (length own) ≡ b → cond b handed own ≡ own
     go true e = same (eqb-true (length handed) (length own) e)
     go false e = refl
 
--- a buffer of the right length is the one that stands, and what the command left stands after it
-standing-own : (own handed left : List ℕ) → length handed ≡ length own → standing own handed left ≡ left
+-- one of the right length is the one that stands, and what the command left stands after it
+standing-own : {A : Type 0} (own handed left : List A) → length handed ≡ length own → standing own handed left ≡ left
 standing-own own handed left e = rw (eq-eqb (length handed) (length own) e) refl
 
--- two states with the same parts are one
-state-same : (a b : State) → a .value ≡ b .value → a .rows ≡ b .rows → a .killers ≡ b .killers → a .slots ≡ b .slots → a ≡ b
-state-same a b v r k s =
-    let e : _≡_ {A = State} (record { value = a .value; rows = a .rows; killers = a .killers; slots = a .slots })
-    (record { value = b .value; rows = b .rows; killers = b .killers; slots = b .slots }) = cc in
+-- two wholes with the same parts are one
+whole-same : (a b : Whole) → a .state .value ≡ b .state .value → a .state .rows ≡ b .state .rows → a .state .killers ≡ b .state .killers → a .state .slots ≡ b .state .slots
+    → a .table ≡ b .table → a ≡ b
+whole-same a b v r k s t =
+    let e : _≡_ {A = Whole}
+    (wholeOf (record { value = a .state .value; rows = a .state .rows; killers = a .state .killers; slots = a .state .slots }) (a .table))
+    (wholeOf (record { value = b .state .value; rows = b .state .rows; killers = b .state .killers; slots = b .state .slots }) (b .table)) = cc in
     e
 
--- A MEMBER HANDED A BUFFER OF ANOTHER LENGTH leaves everything as it was: the promise says refused 1, and that a refusal changes nothing
-pub bad-lengths-stand : (m : Member) (s s′ : State) → Entered m s s′ → badLent? (m .lent) ≡ true → s′ ≡ s
-bad-lengths-stand m s s′ t bad =
-    let short : badLent? (lentOf (t .handed)) ≡ true = ap badLent? (t .lengths) ∙ bad in
-    let refused : t .given ≡ answer.Refused refused.bufferLength = refused-by (t .given) 0 (t .promise .early 0 (rw short refl)) in
-    let same : t .left ≡ t .handed = t .promise .refused 1 refused in
+-- what stands after a member
+abbrev stood : {m : Member} {s s′ : Whole} → Entered m s s′ → Whole
+stood {m} {s} t = wholeOf (standingState (s .state) (t .handed .state) (t .left .state)) (standing (s .table) (t .handed .table) (t .left .table))
+
+-- A MEMBER HANDED A BUFFER OR A TABLE OF ANOTHER LENGTH leaves everything as it was: the promise says refused, 1 or 22, and that a refusal changes nothing
+pub bad-lengths-stand : (m : Member) (s s′ : Whole) → Entered m s s′ → (n : ℕ) → firstOf (lentConditions (m .lent)) ≡ suc n → s′ ≡ s
+bad-lengths-stand m s s′ t n bad =
+    let form = formConditions (readAt (m .bytes) 0 .read) (ltb (readAt (m .bytes) 0 .next) (length (m .bytes))) in
+    let early = first-stands (lentConditions (lentWith (t .handed))) form n (ap (λ (l : CommandLent). firstOf (lentConditions l)) (t .lengths) ∙ bad) in
+    let refused : t .given ≡ answer.Refused (suc n) = refused-by (t .given) n (t .promise .state .early n early) in
+    let same : t .left .state ≡ t .handed .state = t .promise .state .refused (suc n) refused in
+    let kept : t .left .table ≡ t .handed .table = t .promise .table-kept (suc n) refused in
     t .stands
-    ∙ state-same (record {
-      value = t .left .value;
-      rows = standing (s .rows) (t .handed .rows) (t .left .rows);
-      killers = standing (s .killers) (t .handed .killers) (t .left .killers);
-      slots = standing (s .slots) (t .handed .slots) (t .left .slots);
-    }) s (ap (λ (x : State). x .value) same ∙ t .value)
-    (rw same (standing-same (s .rows) (t .handed .rows) (t .rows)))
-    (rw same (standing-same (s .killers) (t .handed .killers) (t .killers)))
-    (rw same (standing-same (s .slots) (t .handed .slots) (t .slots)))
+    ∙ whole-same (stood t) s (ap (λ (x : State). x .value) same ∙ t .value)
+    (rw same (standing-same (s .state .rows) (t .handed .state .rows) (t .rows)))
+    (rw same (standing-same (s .state .killers) (t .handed .state .killers) (t .killers)))
+    (rw same (standing-same (s .state .slots) (t .handed .state .slots) (t .slots)))
+    (rw kept (standing-same (s .table) (t .handed .table) (t .table)))
 
 -- A MEMBER HANDED THE RIGHT LENGTHS is handed what stands, and what it leaves stands after it
-module _ (L : Ledger) (m : Member) (s s′ : State) (rep : Represents L s) (t : Entered m s s′) (good : badLent? (m .lent) ≡ false) where
-  own-lengths : lentOf s ≡ m .lent
-  own-lengths =
-      let e = lent-sizes (m .lent) good in
-      let r = rep .stored .row-bytes .rows-size in
-      let k = rep .stored .killers-size in
-      let b = rep .stored .slots-size in
-      cc
-
+module _ (m : Member) (s s′ : Whole) (t : Entered m s s′) (own : lentWith (t .handed) ≡ lentWith s) where
   handed-own : t .handed ≡ s
   handed-own =
-      let e = t .lengths ∙ sym own-lengths in
-      state-same (t .handed) s (t .value) (t .rows (ap (λ (l : Lent). l .rows) e)) (t .killers (ap (λ (l : Lent). l .killers) e)) (t .slots (ap (λ (l : Lent). l .slots) e))
+      whole-same (t .handed) s (t .value)
+      (t .rows (ap (λ (l : CommandLent). l .buffers .rows) own))
+      (t .killers (ap (λ (l : CommandLent). l .buffers .killers) own))
+      (t .slots (ap (λ (l : CommandLent). l .buffers .slots) own))
+      (t .table (ap (λ (l : CommandLent). l .table) own))
 
   left-stands : s′ ≡ t .left
   left-stands =
-      let e = t .lengths ∙ sym own-lengths in
       t .stands
-      ∙ state-same (record {
-        value = t .left .value;
-        rows = standing (s .rows) (t .handed .rows) (t .left .rows);
-        killers = standing (s .killers) (t .handed .killers) (t .left .killers);
-        slots = standing (s .slots) (t .handed .slots) (t .left .slots);
-      }) (t .left) refl
-      (standing-own (s .rows) (t .handed .rows) (t .left .rows) (ap (λ (l : Lent). l .rows) e))
-      (standing-own (s .killers) (t .handed .killers) (t .left .killers) (ap (λ (l : Lent). l .killers) e))
-      (standing-own (s .slots) (t .handed .slots) (t .left .slots) (ap (λ (l : Lent). l .slots) e))
+      ∙ whole-same (stood t) (t .left) refl
+      (standing-own (s .state .rows) (t .handed .state .rows) (t .left .state .rows) (ap (λ (l : CommandLent). l .buffers .rows) own))
+      (standing-own (s .state .killers) (t .handed .state .killers) (t .left .state .killers) (ap (λ (l : CommandLent). l .buffers .killers) own))
+      (standing-own (s .state .slots) (t .handed .state .slots) (t .left .state .slots) (ap (λ (l : CommandLent). l .buffers .slots) own))
+      (standing-own (s .table) (t .handed .table) (t .left .table) (ap (λ (l : CommandLent). l .table) own))
 
   pub good-turn : Promise s (m .bytes) (t .given) s′
   good-turn = rw (left-stands, ← handed-own) (t .promise)
 
--- EVERY TURN keeps the state the ledger's
-abbrev pub IsOf : Ledger → State → Type 0
-IsOf L s = LedgerShape L × Represents L s
-
-pub entered-keeps : (L : Ledger) (m : Member) (s s′ : State) → IsOf L s → Entered m s s′ → IsOf (step L (m .lent) (m .bytes)) s′
-entered-keeps L m s s′ is t = (shape-step L (m .lent) (m .bytes) (is .0), go (badLent? (m .lent)) refl)
+-- EVERY TURN keeps the whole the ledger's
+pub entered-keeps : (L : Ledger) (m : Member) (s s′ : Whole) → IsOf L s → Entered m s s′ → IsOf (step L (m .lent) (m .bytes)) s′
+entered-keeps L m s s′ is t = go (firstOf (lentConditions (m .lent))) refl
   where
-    go : (b : Bool) → badLent? (m .lent) ≡ b → Represents (step L (m .lent) (m .bytes)) s′
-    go true bad =
-        let alone : step L (m .lent) (m .bytes) ≡ L = rw bad refl in
-        rw (alone, bad-lengths-stand m s s′ t bad) (is .1)
-    go false good =
-        subst (λ (l : Lent). Represents (step L l (m .bytes)) s′) (own-lengths L m s s′ (is .1) t good)
-        (good-turn L m s s′ (is .1) t good .answered L (is .0) (is .1) .represents)
+    bytes : List ℕ
+    bytes = m .bytes
+
+    go : (n : ℕ) → firstOf (lentConditions (m .lent)) ≡ n → IsOf (step L (m .lent) bytes) s′
+    go (suc n) bad =
+        let form = formConditions (readAt bytes 0 .read) (ltb (readAt bytes 0 .next) (length bytes)) in
+        let own = ownConditions L (readAt bytes 0 .read) (readAt bytes 0 .counts) in
+        let refused : refusal L (m .lent) bytes ≡ suc n = first-stands (earlyConditions (m .lent) bytes) own n (first-stands (lentConditions (m .lent)) form n bad) in
+        let alone : step L (m .lent) bytes ≡ L = ap (λ (k : ℕ). obey k L (readAt bytes 0 .read) (readAt bytes 0 .counts)) refused in
+        rw (alone, bad-lengths-stand m s s′ t n bad) is
+    go zero good =
+        let passes = none-holds (lentConditions (m .lent)) tt good in
+        let right : m .lent ≡ lentWith s = lent-right (m .lent) (passes refused.bufferLength) (passes refused.tableLength) ∙ sym (is-lengths L s is) in
+        subst (λ (l : CommandLent). IsOf (step L l bytes) s′) (sym right) (promise-keeps L s s′ bytes (t .given) is (good-turn m s s′ t (t .lengths ∙ right)))
+
+fresh-whole-is : IsOf fresh freshWhole
+fresh-whole-is = (shape-fresh, fresh-represents, fresh-current)
 
 -- DEMAND 3 FOR EVERY LIST OF RAW COMMANDS, with any lengths and refused ones among them, and for every two
-pub demand-3 : (ms : List Member) (s : State) → Runs State Member Entered freshState ms s → Demand3 (run fresh ms .board) s
-demand-3 = every-run State Member (λ s. s) stepBy Entered IsOf freshState (λ L s is. is) (shape-fresh, fresh-represents) entered-keeps
+pub demand-3 : (ms : List Member) (s : Whole) → Runs Whole Member Entered freshWhole ms s → Demand3 (run fresh ms .board) (s .state)
+demand-3 = every-run Whole Member (λ s. s .state) stepBy Entered IsOf freshWhole (λ L s is. (is .0, is .1)) fresh-whole-is entered-keeps
 
-pub demand-3-two : (ms ms′ : List Member) (s s′ : State) → Runs State Member Entered freshState ms s → Runs State Member Entered freshState ms′ s′
-    → Demand3Two (run fresh ms .board) s (run fresh ms′ .board) s′
-demand-3-two = every-two-runs State Member (λ s. s) stepBy Entered IsOf freshState (λ L s is. is) (shape-fresh, fresh-represents) entered-keeps
+pub demand-3-two : (ms ms′ : List Member) (s s′ : Whole) → Runs Whole Member Entered freshWhole ms s → Runs Whole Member Entered freshWhole ms′ s′
+    → Demand3Two (run fresh ms .board) (s .state) (run fresh ms′ .board) (s′ .state)
+demand-3-two = every-two-runs Whole Member (λ s. s .state) stepBy Entered IsOf freshWhole (λ L s is. (is .0, is .1)) fresh-whole-is entered-keeps
 
--- and what stands after a list is the ledger's, the shape with it
-pub runs-represent : (ms : List Member) (s : State) → Runs State Member Entered freshState ms s → IsOf (run fresh ms) s
-runs-represent ms s ran = runs-keep State Member (λ s. s) stepBy Entered IsOf freshState (λ L s is. is) (shape-fresh, fresh-represents) entered-keeps fresh (shape-fresh, fresh-represents) ran
+-- and what stands after a list is the ledger's, the shape and the table with it
+pub runs-represent : (ms : List Member) (s : Whole) → Runs Whole Member Entered freshWhole ms s → IsOf (run fresh ms) s
+runs-represent ms s ran = runs-keep Whole Member (λ s. s .state) stepBy Entered IsOf freshWhole (λ L s is. (is .0, is .1)) fresh-whole-is entered-keeps fresh fresh-whole-is ran
+
+pub table-current : (ms : List Member) (s : Whole) → Runs Whole Member Entered freshWhole ms s → Current (run fresh ms .board) (s .table)
+table-current ms s ran = runs-represent ms s ran .2

@@ -49,7 +49,7 @@ module _ (L : Ledger) (s : State) (rep : Represents L s) (c t : ℕ) (lc : c < 3
       cause n (inr h) = lt→ltb (causeOf (s .slots) c t) 64 h
 
 -- tests that agree on the slots of the memory count alike
-slots-same : (f g : ℕ → ℕ → Bool) → ((c t : ℕ) → c < 32 → t < 32 → f c t ≡ g c t) → slotCount f ≡ slotCount g
+pub slots-same : (f g : ℕ → ℕ → Bool) → ((c t : ℕ) → c < 32 → t < 32 → f c t ≡ g c t) → slotCount f ≡ slotCount g
 slots-same f g same = count-same slotsLength (λ i. f (i / 32) (i % 32)) (λ i. g (i / 32) (i % 32)) (λ i h. same (i / 32) (i % 32) (omega arith) (omega arith))
 
 module _ (L L′ : Ledger) (s s′ : State) (rep : Represents L s) (rep′ : Represents L′ s′) where

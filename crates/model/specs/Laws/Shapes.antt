@@ -21,9 +21,9 @@ use Rattle.model.specs.declared.command.Read.the-variants as found
 use Rattle.model.specs.Board.{Rule, Board, callAt, slotAt, InForce, GoodRule, Shape}
 use Rattle.model.specs.Tests.{some?, every?, isNone}
 use Rattle.model.specs.Commands.{isKind, bodySize, commandAt, without, readAt, scopeOf, slotsOf}
-use Rattle.model.specs.Ledger.{NumberedRule, Ledger, LedgerShape, Member, bare, fresh, draftOr, lentConditions, kindConditions, formConditions, ownConditions, refusal, upToZero, withRule, effect, obey, step, run}
+use Rattle.model.specs.Ledger.{NumberedRule, Ledger, LedgerShape, Member, bare, fresh, draftOr, lentConditions, kindConditions, formConditions, ownConditions, refusal, upToZero, withRule, effect, obey, step, run, lengths}
 use Rattle.model.specs.Laws.Tests.{or-false, none-passes, →every, T→, →T, none-some}
-use Rattle.layout.specs.Sizes.{Lent, badLent?, killersLength, rowsLength, slotsLength}
+use Rattle.layout.specs.Sizes.{Lent, CommandLent, badLent?, badTable?, killersLength, rowsLength, slotsLength, recordsLength}
 use Rattle.tables.specs.Laws.Facts.{true-false}
 use Rattle.model.specs.Refusals.{firstOf, conditionOf}
 use Rattle.model.specs.Numbers as refused
@@ -35,6 +35,15 @@ lent-sizes lent e =
     let all = and-eq-true-iff (eqb (lent .rows) rowsLength && eqb (lent .killers) killersLength) (eqb (lent .slots) slotsLength) .0 (not-false _ e) in
     let two = and-eq-true-iff (eqb (lent .rows) rowsLength) (eqb (lent .killers) killersLength) .0 (all .0) in
     (eqb-true (lent .rows) rowsLength (two .0), eqb-true (lent .killers) killersLength (two .1), eqb-true (lent .slots) slotsLength (all .1))
+
+-- and those of all that is lent with a command
+pub lent-right : (lent : CommandLent) → badLent? (lent .buffers) ≡ false → badTable? lent ≡ false → lent ≡ lengths
+lent-right lent good table =
+    let sizes = lent-sizes (lent .buffers) good in
+    let records = eqb-true (lent .table) recordsLength (not-false _ table) in
+    let all : _≡_ {A = CommandLent}
+    (record { buffers = record { rows = lent .buffers .rows; killers = lent .buffers .killers; slots = lent .buffers .slots }; table = lent .table }) lengths = cc in
+    all
 
 -- a board without rules
 pub none-there : (n p : ℕ) → _≡_ {A = Option Rule} (getD (replicate n none) p none) none
@@ -236,7 +245,7 @@ counts-most s at = go (leb (length s) at) (isKind (getD s at 0)) (leb (at + 1 + 
     go false false c d = omega arith
 
 -- EVERY COMMAND, from its bytes
-pub shape-step : (L : Ledger) (lent : Lent) (bytes : List ℕ) → LedgerShape L → LedgerShape (step L lent bytes)
+pub shape-step : (L : Ledger) (lent : CommandLent) (bytes : List ℕ) → LedgerShape L → LedgerShape (step L lent bytes)
 shape-step L lent bytes shape = go (readAt bytes 0 .read) (counts-most bytes 0) (refusal L lent bytes) refl
   where
     ns : List ℕ

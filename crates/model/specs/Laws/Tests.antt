@@ -1,13 +1,15 @@
 -- What a passed or a failed test says. Assumes nothing.
-use mathlib.Core.Path.{_≡_, refl}
-use mathlib.Core.Bool.{Bool, true, false, _&&_, _||_, cond}
+use mathlib.Core.Path.{_≡_, refl, ap, _∙_}
+use mathlib.Core.Bool.{Bool, true, false, not, _&&_, _||_, cond}
 use mathlib.Core.List.{List, [], _∷_}
 use mathlib.Core.Logic.{_⊎_, inl, inr, ⊎-elim}
 use mathlib.Core.Option.{none, some}
-use Prim.Native.Nat.{ℕ, zero, suc, _<_, _≤_, _+_}
+use Prim.Native.Nat.{ℕ, zero, suc, _<_, _≤_, _+_, _*_, _/_, _%_, min}
 use native.Mathlib.Omega.{arith}
-use native.Mathlib.Nat.{eq-or-lt-of-le, le-of-suc-le-suc}
-use lib.Dec.{T, eqb, eqb→eq, eqb-refl}
+use native.Mathlib.Nat.{add-zero, add-suc, eq-or-lt-of-le, le-of-suc-le-suc, mul-add-div, div-eq-of-lt, mul-add-mod-self-left, mod-eq-of-lt}
+use lib.ListN.{length, getD}
+use lib.Dec.{T, eqb, ltb, eqb→eq, eqb-refl}
+use borrow.Author.Tests.{lt-ltb, le-ltb}
 use Rattle.model.specs.Tests.{some?, every?, countBelow, has, keepOnly, upFrom}
 use Rattle.tables.specs.Laws.Facts.{true-false, lt-or-le}
 
@@ -99,7 +101,77 @@ pub count-same : (n : ℕ) (f g : ℕ → Bool) → ((i : ℕ) → i < n → f i
 count-same zero f g same = refl
 count-same (suc n) f g same = let e = count-same n f g (λ i h. same i (omega arith)) in let d = same n (omega arith) in rw (e, d) refl
 
+-- a test that nothing passes counts none; and a count goes on behind the first m numbers
+pub count-none : (n : ℕ) (f : ℕ → Bool) → ((i : ℕ) → i < n → f i ≡ false) → countBelow n f ≡ 0
+count-none zero f fails = refl
+count-none (suc n) f fails = let e = count-none n f (λ i h. fails i (omega arith)) in let d = fails n (omega arith) in rw (e, d) refl
+
+pub count-add : (m k : ℕ) (f : ℕ → Bool) → countBelow (m + k) f ≡ countBelow m f + countBelow k (λ i. f (m + i))
+count-add m zero f = rw (add-zero m) (omega arith)
+count-add m (suc k) f = rw (add-suc m k, count-add m k f) (omega arith)
+
+-- a count is no more than the numbers it looks at
+pub count-bound : (n : ℕ) (f : ℕ → Bool) → countBelow n f ≤ n
+count-bound zero f = omega arith
+count-bound (suc n) f = go (f n) (count-bound n f)
+  where
+    go : (b : Bool) → countBelow n f ≤ n → countBelow n f + cond b 1 0 ≤ suc n
+    go true h = omega arith
+    go false h = omega arith
+
+-- a test that passes once at most counts 1 where it passes at all
+pub count-once : (n : ℕ) (f : ℕ → Bool) → ((i j : ℕ) → i < j → j < n → T (f i) → T (f j) → ⊥) → countBelow n f ≡ cond (some? n f) 1 0
+count-once zero f once = refl
+count-once (suc n) f once =
+    ap (λ (m : ℕ). m + cond (f n) 1 0) (count-once n f (λ i j l h. once i j l (omega arith)))
+    ∙ go (some? n f) (f n) (λ t u. let found = some→ n f t in once (found .0) n (found .1) (omega arith) (found .2) u)
+  where
+    go : (a b : Bool) → (T a → T b → ⊥) → cond a 1 0 + cond b 1 0 ≡ cond (a || b) 1 0
+    go true true never = absurd (never tt tt)
+    go true false never = refl
+    go false b never = omega arith
+
+-- the numbers below n that fail a test, and all that pass it, where none passes from n on
+pub count-rest : (m n : ℕ) (f : ℕ → Bool) → n ≤ m → ((i : ℕ) → T (f i) → i < n) → countBelow m (λ i. ltb i n && not (f i)) + countBelow m f ≡ n
+count-rest m n f h below = go (countBelow m (λ i. ltb i n && not (f i))) (countBelow m f) (both m)
+  where
+    go : (a b : ℕ) → a + b ≡ min m n → a + b ≡ n
+    go a b e = omega arith
+
+    step : (k a b : ℕ) (t : Bool) → (T t → k < n) → a + b ≡ min k n → (a + cond (ltb k n && not t) 1 0) + (b + cond t 1 0) ≡ min (suc k) n
+    step k a b true in-range e = let h = in-range tt in rw (lt-ltb k n h) (omega arith)
+    step k a b false in-range e = ⊎-elim (λ h. rw (lt-ltb k n h) (omega arith)) (λ h. rw (le-ltb k n h) (omega arith)) (lt-or-le k n)
+
+    both : (k : ℕ) → countBelow k (λ i. ltb i n && not (f i)) + countBelow k f ≡ min k n
+    both zero = omega arith
+    both (suc k) = step k (countBelow k (λ i. ltb i n && not (f i))) (countBelow k f) (f k) (below k) (both k)
+
+-- A COUNT OVER PAIRS, in rows of w, goes on by the row of n
+pub count-row : (w n : ℕ) (f : ℕ → ℕ → Bool) → 0 < w
+    → countBelow (w * n + w) (λ i. f (i / w) (i % w)) ≡ countBelow (w * n) (λ i. f (i / w) (i % w)) + countBelow w (f n)
+count-row w n f h =
+    count-add (w * n) w (λ i. f (i / w) (i % w))
+    ∙ ap (λ (m : ℕ). countBelow (w * n) (λ i. f (i / w) (i % w)) + m)
+    (count-same w (λ k. f ((w * n + k) / w) ((w * n + k) % w)) (f n)
+    (λ k l.
+    let q : (w * n + k) / w ≡ n = mul-add-div h n k ∙ ap (λ (m : ℕ). n + m) (div-eq-of-lt l) ∙ add-zero n in
+    let r : (w * n + k) % w ≡ k = mul-add-mod-self-left w n k ∙ mod-eq-of-lt l in
+    rw (q, r) refl))
+
 -- members of lists
+pub has→ : (d : ℕ) (xs : List ℕ) (s : ℕ) → T (has xs s) → (k : ℕ) × (k < length xs) × (getD xs k d ≡ s)
+has→ d [] s t = absurd t
+has→ d (x ∷ xs) s t = go (λ u. has→ d xs s u) (or→ (eqb x s) (has xs s) t)
+  where
+    go : (T (has xs s) → (k : ℕ) × (k < length xs) × (getD xs k d ≡ s)) → T (eqb x s) ⊎ T (has xs s) → (k : ℕ) × (k < length (x ∷ xs)) × (getD (x ∷ xs) k d ≡ s)
+    go ih (inl q) = (0, omega arith, eqb→eq x s q)
+    go ih (inr u) = let r = ih u in let l = r .1 in (suc (r .0), omega arith, r .2)
+
+pub →has : (d : ℕ) (xs : List ℕ) (s k : ℕ) → k < length xs → getD xs k d ≡ s → T (has xs s)
+→has d [] s k h e = absurd (omega arith)
+→has d (x ∷ xs) s zero h e = →or (eqb x s) (has xs s) (inl (→eqb x s e))
+→has d (x ∷ xs) s (suc k) h e = →or (eqb x s) (has xs s) (inr (→has d xs s k (omega arith) e))
+
 pub keep→ : (f : ℕ → Bool) (xs : List ℕ) (s : ℕ) → T (has (keepOnly f xs) s) → T (has xs s) × T (f s)
 keep→ f [] s t = absurd t
 keep→ f (x ∷ xs) s t = go (f x) refl (λ u. keep→ f xs s u) t

@@ -1,14 +1,15 @@
--- WHAT THE PROMISE TURNS AWAY. For each wrong board of SCOPE 10.3, and for the wrong turns of SCOPE 9 that P3, P4 and P5 show: no state and answer after a
--- sample's commands meet both the promise and the wrong behaviour. Assumes nothing.
+-- WHAT THE PROMISE TURNS AWAY. For each wrong board of SCOPE 10.3, for the wrong turns of SCOPE 9 that P3, P4 and P5 show, and for wrong tables: no state, table and
+-- answer after a sample's commands meet both the promise and the wrong behaviour. Assumes nothing.
 use mathlib.Core.Path.{_≡_, refl, sym, ap, subst, _∙_}
 use mathlib.Core.Bool.{Bool, true, false, true≢false, not, _&&_}
 use mathlib.Core.List.{List, [], _∷_, map}
 use mathlib.Core.Logic.{_≢_, _⊎_, inl, inr}
 use mathlib.Core.Option.{Option, none, some}
-use Prim.Native.Nat.{ℕ, zero, suc, _<_}
+use Prim.Native.Nat.{ℕ, zero, suc, _+_, _<_}
 use native.Mathlib.Omega.{arith}
-use lib.ListN.{getD}
+use lib.ListN.{length, getD}
 use lib.Dec.{T, lit<, T-not}
+use borrow.Author.Tests.{ne-eqb}
 use Rattle.model.specs.declared.answer.Report.{Report}
 use Rattle.model.specs.declared.answer.Answer.{Answer}
 use Rattle.model.specs.declared.answer.Answer.the-variants as answer
@@ -21,22 +22,24 @@ use Rattle.model.specs.Filter.{in?, inScope?, all?, openOf}
 use Rattle.model.specs.Commands.{readAt}
 use Rattle.model.specs.Ledger.{LedgerShape, refusal, step, member, lengths}
 use Rattle.model.specs.Report.{open?}
-use Rattle.model.specs.Representation.{Represents, ruleAt}
+use Rattle.model.specs.Representation.{Represents, ruleOr, ruleAt}
+use Rattle.model.specs.Summary.{ruleOn?, recordOf, Current}
 use Rattle.model.specs.Promise.{Answered, ReportsOf, valuesAt, reportValues}
 use Rattle.model.specs.Questions.{maskOf, callConditions, slotsValues, SlotsPromise, supportConditions, SupportPromise}
 use Rattle.model.specs.Samples.{Outcome, Sample, Right, ledgerBefore, ledgerLast, p1, p2, p3, p4Retract, p5, p6}
 use Rattle.model.specs.Laws.Tests.{→and}
 use Rattle.model.specs.Laws.Theory.{one-rule, numbered}
 use Rattle.model.specs.Laws.Filter.{found-viable, within→, →onCall, all→}
-use Rattle.model.specs.Laws.Lists.{IsOf, runs-represent}
+use Rattle.model.specs.Laws.Lists.{IsOf, is-lengths, promise-keeps, runs-represent}
 use Rattle.model.specs.Laws.Answers.{accepted-by}
-use Rattle.model.specs.Laws.Shapes.{shape-step}
 use Rattle.model.specs.Laws.Samples.{samples-right}
 use Rattle.model.specs.Laws.Masks.{mask-same}
 use Rattle.model.specs.Laws.Reports.{open-in, struck-between, reopened-between}
 use Rattle.layout.specs.Places.{causeOf, killerOf}
-use Rattle.layout.specs.Memory.{State, lentOf}
-use Rattle.layout.specs.Sizes.{Lent}
+use Rattle.layout.specs.Memory.{Whole, lentOf, lentWith}
+use Rattle.layout.specs.declared.summary.Summary.{Summary}
+use Rattle.layout.specs.Summary.{noSummary, noRecords}
+use Rattle.layout.specs.Sizes.{Lent, CommandLent, recordsLength}
 use Rattle.model.specs.WrongBoards.{Last}
 use Rattle.model.specs.Refusals.{firstOf}
 
@@ -64,71 +67,77 @@ two-causes B cause killer {a} {b} none-on-both (because r f o k g) (because r′
     let out : T (not (onBoth B (some r))) = rw f at (all→ (λ o. not (onBoth B o)) (B .rules) none-on-both (cause 0 a) (numbered B (cause 0 a) r f)) in
     T-not (inScope? B r 0 && inScope? B r 2) out (→and (inScope? B r 0) (inScope? B r 2) (→onCall B r 0 o) (→onCall B r 2 (rw one at o′)))
 
-module _ (x : Sample) (s : State) (given : Answer) (s′ : State) (last : Last x s given s′) where
+-- the columns of all rules
+abbrev pub columnCount : List (Option Rule) → ℕ
+columnCount [] = 0
+columnCount (o ∷ os) = length (ruleOr o .scope) + columnCount os
+
+module _ (x : Sample) (s : Whole) (given : Answer) (s′ : Whole) (last : Last x s given s′) where
   is : IsOf (ledgerBefore x) s
   is = runs-represent (map member (x .before)) s (last .reached)
 
-  lent : lentOf s ≡ lengths
-  lent =
-      let r = is .1 .stored .row-bytes .rows-size in
-      let k = is .1 .stored .killers-size in
-      let b = is .1 .stored .slots-size in
-      cc
+  lent : lentWith s ≡ lengths
+  lent = is-lengths (ledgerBefore x) s is
 
-  answered : Answered (ledgerBefore x) s (x .last) given s′
-  answered = last .promise .answered (ledgerBefore x) (is .0) (is .1)
+  answered : Answered (lentWith s) (ledgerBefore x) (s .state) (x .last) given (s′ .state)
+  answered = last .promise .state .answered (ledgerBefore x) (is .0) (is .1)
 
-  after : Represents (ledgerLast x) s′
-  after = subst (λ (l : Lent). Represents (step (ledgerBefore x) l (x .last)) s′) lent (answered .represents)
+  is-after : IsOf (ledgerLast x) s′
+  is-after = subst (λ (l : CommandLent). IsOf (step (ledgerBefore x) l (x .last)) s′) lent (promise-keeps (ledgerBefore x) s s′ (x .last) given is (last .promise))
+
+  after : Represents (ledgerLast x) (s′ .state)
+  after = is-after .1
+
+  -- a call's record is the one that the board says
+  figures : (c : ℕ) → c < recordsLength → getD (s′ .table) c noSummary ≡ recordOf (ledgerLast x .board) c
+  figures = is-after .2 .each
 
   -- a byte is 255 where the sample says open, and only there
-  opens : Right x → (c t : ℕ) → c < 32 → t < 32 → T (in? (x .outcome .left) c t) → causeOf (s′ .slots) c t ≡ 255
+  opens : Right x → (c t : ℕ) → c < 32 → t < 32 → T (in? (x .outcome .left) c t) → causeOf (s′ .state .slots) c t ≡ 255
   opens right c t lc lt i = after .stored .viable c t lc lt .1 (right .viable c t .0 i)
 
-  closes : Right x → (c t : ℕ) → c < 32 → t < 32 → T (not (in? (x .outcome .left) c t)) → causeOf (s′ .slots) c t ≢ 255
+  closes : Right x → (c t : ℕ) → c < 32 → t < 32 → T (not (in? (x .outcome .left) c t)) → causeOf (s′ .state .slots) c t ≢ 255
   closes right c t lc lt n e = T-not (in? (x .outcome .left) c t) n (right .viable c t .1 (after .stored .viable c t lc lt .0 e))
 
   -- the answer is the one that the sample's refusal decides
-  refusal-is : Right x → refusal (ledgerBefore x) (lentOf s) (x .last) ≡ x .outcome .refused
-  refusal-is right = ap (λ (l : Lent). refusal (ledgerBefore x) l (x .last)) lent ∙ ap (λ (o : Outcome). o .refused) (right .outcome)
+  refusal-is : Right x → refusal (ledgerBefore x) (lentWith s) (x .last) ≡ x .outcome .refused
+  refusal-is right = ap (λ (l : CommandLent). refusal (ledgerBefore x) l (x .last)) lent ∙ ap (λ (o : Outcome). o .refused) (right .outcome)
 
   accepted-is : Right x → x .outcome .refused ≡ 0 → given ≡ answer.Accepted (answered .report)
   accepted-is right accepted =
       accepted-by given (answered .report) (answered .values ∙ ap (λ (n : ℕ). valuesAt n (reportValues (answered .report))) (refusal-is right ∙ accepted))
 
   -- a slot of the board that the sample says is closed is struck
-  strikes : Right x → (c t : ℕ) → c < 32 → t < 32 → OnBoard (ledgerLast x .board) c t → T (not (in? (x .outcome .left) c t)) → Struck (ledgerLast x .board) (causeOf (s′ .slots)) c t
+  strikes : Right x → (c t : ℕ) → c < 32 → t < 32 → OnBoard (ledgerLast x .board) c t → T (not (in? (x .outcome .left) c t))
+      → Struck (ledgerLast x .board) (causeOf (s′ .state .slots)) c t
   strikes right c t lc lt on n = (on, go (after .stored .recorded .sound .either c t on))
     where
-      go : (causeOf (s′ .slots) c t ≡ 255) ⊎ (causeOf (s′ .slots) c t < 64) → causeOf (s′ .slots) c t < 64
+      go : (causeOf (s′ .state .slots) c t ≡ 255) ⊎ (causeOf (s′ .state .slots) c t < 64) → causeOf (s′ .state .slots) c t < 64
       go (inl e) = absurd (closes right c t lc lt n e)
       go (inr h) = h
 
   -- before the last command a byte is 255 where the filter finds the slot open
-  was : (c t : ℕ) → c < 32 → t < 32 → open? (s .slots) c t ≡ in? (openOf (ledgerBefore x .board)) c t
-  was = open-in (ledgerBefore x) s (is .1)
+  was : (c t : ℕ) → c < 32 → t < 32 → open? (s .state .slots) c t ≡ in? (openOf (ledgerBefore x .board)) c t
+  was = open-in (ledgerBefore x) (s .state) (is .1)
 
-  now-is : (c t : ℕ) → c < 32 → t < 32 → open? (s′ .slots) c t ≡ in? (openOf (ledgerLast x .board)) c t
-  now-is = open-in (ledgerLast x) s′ after
+  now-is : (c t : ℕ) → c < 32 → t < 32 → open? (s′ .state .slots) c t ≡ in? (openOf (ledgerLast x .board)) c t
+  now-is = open-in (ledgerLast x) (s′ .state) after
 
   -- what the slot bytes say of a slot that the command opened or closed cannot stay
-  changes : (c t : ℕ) → c < 32 → t < 32 → T (differ (in? (openOf (ledgerBefore x .board)) c t) (in? (openOf (ledgerLast x .board)) c t)) → s′ .slots ≡ s .slots → ⊥
+  changes : (c t : ℕ) → c < 32 → t < 32 → T (differ (in? (openOf (ledgerBefore x .board)) c t) (in? (openOf (ledgerLast x .board)) c t))
+      → s′ .state .slots ≡ s .state .slots → ⊥
   changes c t lc lt d same =
       differ-not (in? (openOf (ledgerBefore x .board)) c t) (in? (openOf (ledgerLast x .board)) c t) d
       (sym (was c t lc lt) ∙ ap (λ (l : List ℕ). open? l c t) (sym same) ∙ now-is c t lc lt)
 
   shape-after : LedgerShape (ledgerLast x)
-  shape-after = shape-step (ledgerBefore x) lengths (x .last) (is .0)
+  shape-after = is-after .0
 
-  lent-after : lentOf s′ ≡ lengths
-  lent-after =
-      let r = after .stored .row-bytes .rows-size in
-      let k = after .stored .killers-size in
-      let b = after .stored .slots-size in
-      cc
+  lent-after : lentOf (s′ .state) ≡ lengths .buffers
+  lent-after = ap (λ (l : CommandLent). l .buffers) (is-lengths (ledgerLast x) s′ is-after)
 
   -- a value of which the report of what was read says n is n in the answer
-  told : (value : Report → ℕ) (n : ℕ) → ((r : Report) → ReportsOf (readAt (x .last) 0 .read) s s′ r → value r ≡ n) → Right x → x .outcome .refused ≡ 0
+  told : (value : Report → ℕ) (n : ℕ) → ((r : Report) → ReportsOf (readAt (x .last) 0 .read) (s .state) (s′ .state) r → value r ≡ n) → Right x → x .outcome .refused ≡ 0
       → (r : Report) → given ≡ answer.Accepted r → value r ≡ n
   told value n says right accepted r e =
       let d = accepted-is right accepted in
@@ -151,7 +160,7 @@ right-p4-retract = samples-right .1 .1 .1 .1 .0
 right-p5 : Right p5
 right-p5 = samples-right .1 .1 .1 .1 .1 .1 .0
 
-module _ (s : State) (given : Answer) (s′ : State) where
+module _ (s : Whole) (given : Answer) (s′ : Whole) where
   -- A BOARD THAT REFUSES ALL COMMANDS
   pub not-refusing : Last p1 s given s′ → (n : ℕ) → given ≡ answer.Refused n → ⊥
   not-refusing last n e =
@@ -160,66 +169,70 @@ module _ (s : State) (given : Answer) (s′ : State) where
       omega arith
 
   -- ONE THAT STRIKES EVERYTHING
-  pub not-striking-all : Last p1 s given s′ → ((c t : ℕ) → OnBoard (ledgerLast p1 .board) c t → causeOf (s′ .slots) c t < 64) → ⊥
+  pub not-striking-all : Last p1 s given s′ → ((c t : ℕ) → OnBoard (ledgerLast p1 .board) c t → causeOf (s′ .state .slots) c t < 64) → ⊥
   not-striking-all last all = omega (arith, all 0 0 (lit< tt), opens p1 s given s′ last right-p1 0 0 (lit< tt) (lit< tt) tt)
 
   -- ONE THAT STRIKES NOTHING
-  pub not-striking-none : Last p1 s given s′ → ((c t : ℕ) → OnBoard (ledgerLast p1 .board) c t → causeOf (s′ .slots) c t ≡ 255) → ⊥
+  pub not-striking-none : Last p1 s given s′ → ((c t : ℕ) → OnBoard (ledgerLast p1 .board) c t → causeOf (s′ .state .slots) c t ≡ 255) → ⊥
   not-striking-none last all = closes p1 s given s′ last right-p1 0 2 (lit< tt) (lit< tt) tt (all 0 2 (lit< tt))
 
   -- ONE THAT ALWAYS SHOWS ONE MASK: after P5 the two calls differ
-  pub not-one-mask : Last p5 s given s′ → (shown : OpenSlots) → SlotsPromise s′ 0 shown → SlotsPromise s′ 1 shown → ⊥
+  pub not-one-mask : Last p5 s given s′ → (shown : OpenSlots) → SlotsPromise (s′ .state) 0 shown → SlotsPromise (s′ .state) 1 shown → ⊥
   unfolding active? live?
   not-one-mask last shown m m′ =
       let L = ledgerLast p5 in
       let shape = shape-after p5 s given s′ last in
       let rep = after p5 s given s′ last in
       let same = lent-after p5 s given s′ last in
-      let e : slotsValues shown ≡ values-at 0 lengths = m .answered L shape rep .values ∙ ap (values-at 0) same in
-      let e′ : slotsValues shown ≡ values-at 1 lengths = m′ .answered L shape rep .values ∙ ap (values-at 1) same in
-      let empty : maskOf 32 (open? (s′ .slots) 0) ≡ 0 = mask-same 32 (open? (s′ .slots) 0) (in? (openOf (L .board)) 0) (λ t h. now-is p5 s given s′ last 0 t (lit< tt) h) in
-      let full : maskOf 32 (open? (s′ .slots) 1) ≡ 3 = mask-same 32 (open? (s′ .slots) 1) (in? (openOf (L .board)) 1) (λ t h. now-is p5 s given s′ last 1 t (lit< tt) h) in
+      let e : slotsValues shown ≡ values-at 0 (lengths .buffers) = m .answered L shape rep .values ∙ ap (values-at 0) same in
+      let e′ : slotsValues shown ≡ values-at 1 (lengths .buffers) = m′ .answered L shape rep .values ∙ ap (values-at 1) same in
+      let empty : maskOf 32 (open? (s′ .state .slots) 0) ≡ 0 =
+      mask-same 32 (open? (s′ .state .slots) 0) (in? (openOf (L .board)) 0) (λ t h. now-is p5 s given s′ last 0 t (lit< tt) h) in
+      let full : maskOf 32 (open? (s′ .state .slots) 1) ≡ 3 =
+      mask-same 32 (open? (s′ .state .slots) 1) (in? (openOf (L .board)) 1) (λ t h. now-is p5 s given s′ last 1 t (lit< tt) h) in
       let z : _≡_ {A = ℕ} 0 3 = sym empty ∙ ap (λ (l : List ℕ). getD l 0 0) (sym e ∙ e′) ∙ full in
       omega arith
     where
       values-at : ℕ → Lent → List ℕ
-      values-at c l = valuesAt (firstOf (callConditions (ledgerLast p5) l c)) (maskOf 32 (open? (s′ .slots) c) ∷ countBelow 32 (open? (s′ .slots) c) ∷ [])
+      values-at c l = valuesAt (firstOf (callConditions (ledgerLast p5) l c)) (maskOf 32 (open? (s′ .state .slots) c) ∷ countBelow 32 (open? (s′ .state .slots) c) ∷ [])
 
   -- ONE THAT IGNORES LIFTS
-  pub not-ignoring-lifts : Last p6 s given s′ → s′ .slots ≡ s .slots → ⊥
+  pub not-ignoring-lifts : Last p6 s given s′ → s′ .state .slots ≡ s .state .slots → ⊥
   unfolding active? live?
   not-ignoring-lifts last = changes p6 s given s′ last 0 0 (lit< tt) (lit< tt) tt
 
   -- ONE THAT STRIKES AT THE FIRST PUT AND IDLES LATER
-  pub not-idling : Last p2 s given s′ → s′ .slots ≡ s .slots → ⊥
+  pub not-idling : Last p2 s given s′ → s′ .state .slots ≡ s .state .slots → ⊥
   unfolding active? live?
   not-idling last = changes p2 s given s′ last 0 1 (lit< tt) (lit< tt) tt
 
   -- ONE THAT NAMES ONE CAUSE FOR ALL
-  pub not-one-cause : Last p2 s given s′ → (n : ℕ) → ((c t : ℕ) → Struck (ledgerLast p2 .board) (causeOf (s′ .slots)) c t → causeOf (s′ .slots) c t ≡ n) → ⊥
+  pub not-one-cause : Last p2 s given s′ → (n : ℕ) → ((c t : ℕ) → Struck (ledgerLast p2 .board) (causeOf (s′ .state .slots)) c t → causeOf (s′ .state .slots) c t ≡ n) → ⊥
   unfolding active? live?
   not-one-cause last n one =
       let h = strikes p2 s given s′ last right-p2 0 2 (lit< tt) (lit< tt) (lit< tt) tt in
       let h′ = strikes p2 s given s′ last right-p2 2 1 (lit< tt) (lit< tt) (lit< tt) tt in
       let sound = after p2 s given s′ last .stored .recorded .sound in
-      two-causes (ledgerLast p2 .board) (causeOf (s′ .slots)) (killerOf (s′ .killers)) tt (sound .grounded 0 2 h) (sound .grounded 2 1 h′) (one 0 2 h ∙ sym (one 2 1 h′))
+      two-causes (ledgerLast p2 .board) (causeOf (s′ .state .slots)) (killerOf (s′ .state .killers)) tt
+      (sound .grounded 0 2 h) (sound .grounded 2 1 h′) (one 0 2 h ∙ sym (one 2 1 h′))
 
   -- ONE THAT INVENTS S, AND ONE THAT INVENTS R
   pub not-inventing-struck : Last p1 s given s′ → (r : Report) → given ≡ answer.Accepted r → r .struck ≢ 2 → ⊥
   not-inventing-struck last r e wrong =
       wrong (told p1 s given s′ last (λ r. r .struck) 2
-      (λ r w. w .struck ∙ struck-between (ledgerBefore p1) (ledgerLast p1) s s′ (is p1 s given s′ last .1) (after p1 s given s′ last) ∙ ap (λ (o : Outcome). o .struck) (right-p1 .outcome))
+      (λ r w. w .struck ∙ struck-between (ledgerBefore p1) (ledgerLast p1) (s .state) (s′ .state) (is p1 s given s′ last .1) (after p1 s given s′ last)
+      ∙ ap (λ (o : Outcome). o .struck) (right-p1 .outcome))
       right-p1 refl r e)
 
   pub not-inventing-reopened : Last p3 s given s′ → (r : Report) → given ≡ answer.Accepted r → r .reopened ≢ 4 → ⊥
   not-inventing-reopened last r e wrong =
       wrong (told p3 s given s′ last (λ r. r .reopened) 4
-      (λ r w. w .reopened ∙ reopened-between (ledgerBefore p3) (ledgerLast p3) s s′ (is p3 s given s′ last .1) (after p3 s given s′ last) refl
+      (λ r w. w .reopened ∙ reopened-between (ledgerBefore p3) (ledgerLast p3) (s .state) (s′ .state) (is p3 s given s′ last .1) (after p3 s given s′ last) refl
       ∙ ap (λ (o : Outcome). o .reopened) (right-p3 .outcome))
       right-p3 refl r e)
 
   -- ONE THAT SAYS "NONE" WITH A LIVING ROW THERE: row 0 of P1's rule holds slot 0 in column 0
-  pub not-none-with-support : Last p1 s given s′ → SupportPromise s′ 0 0 0 support.Nothing → ⊥
+  pub not-none-with-support : Last p1 s given s′ → SupportPromise (s′ .state) 0 0 0 support.Nothing → ⊥
   unfolding active? live?
   not-none-with-support last m =
       let L = ledgerLast p1 in
@@ -227,13 +240,49 @@ module _ (s : State) (given : Answer) (s′ : State) where
       (λ k n. found-viable (L .board) (callAt (ruleAt (L .board) 0) k) (slotAt (ruleAt (L .board) 0) 0 k) .0 (within→ (L .board) (ruleAt (L .board) 0) (openOf (L .board)) 0 tt k n)) refl
 
   -- THE WRONG TURNS (SCOPE 9). 9.1: P4's two slots are left struck, each waiting for the other
-  pub not-waiting : Last p4Retract s given s′ → causeOf (s′ .slots) 0 1 < 64 → causeOf (s′ .slots) 1 1 < 64 → ⊥
+  pub not-waiting : Last p4Retract s given s′ → causeOf (s′ .state .slots) 0 1 < 64 → causeOf (s′ .state .slots) 1 1 < 64 → ⊥
   not-waiting last h h′ = omega (arith, opens p4Retract s given s′ last right-p4-retract 0 1 (lit< tt) (lit< tt) tt)
 
   -- 9.2: slot 1 of call 2 is left struck in P3
-  pub not-own-cause-only : Last p3 s given s′ → causeOf (s′ .slots) 2 1 < 64 → ⊥
+  pub not-own-cause-only : Last p3 s given s′ → causeOf (s′ .state .slots) 2 1 < 64 → ⊥
   not-own-cause-only last h = omega (arith, opens p3 s given s′ last right-p3 2 1 (lit< tt) (lit< tt) tt)
 
   -- 9.4: P5's call 1 is cleared because call 0 has nothing left
-  pub not-clearing : Last p5 s given s′ → ((c t : ℕ) → OnBoard (ledgerLast p5 .board) c t → causeOf (s′ .slots) c t < 64) → ⊥
+  pub not-clearing : Last p5 s given s′ → ((c t : ℕ) → OnBoard (ledgerLast p5 .board) c t → causeOf (s′ .state .slots) c t < 64) → ⊥
   not-clearing last all = omega (arith, all 1 0 (lit< tt), opens p5 s given s′ last right-p5 1 0 (lit< tt) (lit< tt) tt)
+
+  -- WRONG TABLES (SCOPE 2.9). ONE OF ZEROS after P1, which leaves open slots
+  pub not-table-of-zeros : Last p1 s given s′ → s′ .table ≡ noRecords → ⊥
+  unfolding active? live?
+  not-table-of-zeros last zeros =
+      let z : _≡_ {A = ℕ} 0 2 = ap (λ (l : List Summary). getD l 0 noSummary .«open») (sym zeros) ∙ ap (λ (r : Summary). r .«open») (figures p1 s given s′ last 0 (lit< tt)) in
+      omega arith
+
+  -- THE TABLE OF THE BOARD BEFORE: P1's put strikes slots of call 0
+  pub not-table-before : Last p1 s given s′ → Current (ledgerBefore p1 .board) (s′ .table) → ⊥
+  unfolding active? live?
+  not-table-before last old =
+      let z : _≡_ {A = ℕ} 3 2 = ap (λ (r : Summary). r .«open») (sym (old .each 0 (lit< tt)) ∙ figures p1 s given s′ last 0 (lit< tt)) in
+      omega arith
+
+  -- ONE WHOSE RULES ARE COUNTED BY COLUMNS, those of all rules in force: after P2 no call of the board has so many rules on it
+  pub not-rules-by-column : Last p2 s given s′ → (c : ℕ) → c < length (ledgerLast p2 .board .counts)
+      → getD (s′ .table) c noSummary .rules ≡ columnCount (ledgerLast p2 .board .rules) → ⊥
+  not-rules-by-column last c on columns = go c on (sym (ap (λ (r : Summary). r .rules) (figures p2 s given s′ last c (omega arith))) ∙ columns)
+    where
+      go : (c : ℕ) → c < 3 → recordOf (ledgerLast p2 .board) c .rules ≡ 4 → ⊥
+      go zero h e = omega (arith, e)
+      go (suc zero) h e = omega (arith, e)
+      go (suc (suc zero)) h e = omega (arith, e)
+      go (suc (suc (suc c))) h e = omega arith
+
+  -- ONE THAT STILL COUNTS THE LIFTED RULE, P3's rule 0, on one of its calls
+  pub not-lift-counted : Last p3 s given s′ → (c : ℕ) → T (ruleOn? (ledgerBefore p3 .board) c 0)
+      → getD (s′ .table) c noSummary .rules ≡ recordOf (ledgerBefore p3 .board) c .rules → ⊥
+  not-lift-counted last zero on same =
+      let z : _≡_ {A = ℕ} 0 1 = sym (ap (λ (r : Summary). r .rules) (figures p3 s given s′ last 0 (lit< tt))) ∙ same in
+      omega arith
+  not-lift-counted last (suc zero) on same =
+      let z : _≡_ {A = ℕ} 1 2 = sym (ap (λ (r : Summary). r .rules) (figures p3 s given s′ last 1 (lit< tt))) ∙ same in
+      omega arith
+  not-lift-counted last (suc (suc c)) on same = rw (ne-eqb 0 (suc (suc c)) (λ e. omega arith), ne-eqb 1 (suc (suc c)) (λ e. omega arith)) at on

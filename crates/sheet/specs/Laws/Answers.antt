@@ -36,7 +36,7 @@ count-most (suc n) f = go (f n) (count-most n f)
     go true h = omega arith
     go false h = omega arith
 
-slots-most : (f : ℕ → ℕ → Bool) → slotCount f ≤ slotsLength
+pub slots-most : (f : ℕ → ℕ → Bool) → slotCount f ≤ slotsLength
 slots-most f = count-most slotsLength (λ i. f (i / 32) (i % 32))
 
 cond-most : (b : Bool) (f : ℕ → ℕ → Bool) → cond b (slotCount f) 0 ≤ slotsLength

@@ -1,15 +1,19 @@
 -- FROM THE FIRST ROUND TO THE LAST: the lines that are written and those that are left stay all of them, and after the last round those of the board are left.
 -- Assumes nothing.
 use mathlib.Core.Path.{_≡_, refl, sym, ap, _∙_}
+use mathlib.Core.Bool.{Bool, true, false, cond}
 use mathlib.Core.List.{List, [], _++_, append-assoc}
 use Prim.Native.Nat.{ℕ, zero, suc, _+_, _≤_, _<_}
 use native.Mathlib.Omega.{arith}
-use lib.ListN.{length}
+use lib.ListN.{length, length-append}
+use lib.Dec.{eqb}
+use borrow.Author.Tests.{eq-eqb, ne-eqb}
 use Rattle.model.specs.declared.command.Decoded.{Decoded}
 use Rattle.model.specs.Commands.{readAt}
 use Rattle.model.specs.Ledger.{fresh, upToZero}
 use Rattle.model.specs.Representation.{Represents}
-use Rattle.model.specs.Sheet.{readsFrom, linesFrom}
+use Rattle.model.specs.Report.{slotCount, open?}
+use Rattle.model.specs.Sheet.{totalLine, readsFrom, linesFrom}
 use Rattle.model.specs.Laws.Shapes.{shape-fresh}
 use Rattle.sheet_lines.specs.Append.{Room, Appended}
 use Rattle.sheet_lines.specs.Joined.{joined}
@@ -17,30 +21,62 @@ use Rattle.sheet_lines.specs.Calls.{slotLine}
 use Rattle.sheet.specs.declared.advance.Progress.{Progress}
 use Rattle.sheet.specs.Advance.{ledgerNext, lineOf, Held, Advanced}
 use Rattle.sheet.specs.File.{fileLines, countedLines, Fits, Lined, Reached}
+use Rattle.sheet.specs.Laws.Answers.{slots-most}
 use Rattle.sheet.specs.Laws.Advance.{reads-end, advance-lines, advance-further, advance-shape}
 use Rattle.layout.specs.Memory.{State}
-use Rattle.sheet_lines.specs.Laws.Append.{append-none, append-more, append-same, room-less}
+use Rattle.layout.specs.Sizes.{slotsLength}
+use Rattle.sheet_lines.specs.Laws.Append.{append-none, append-more, append-same, room-less, room-after}
 use Rattle.sheet_lines.specs.Laws.Counts.{counted-lines, count-most}
-use Rattle.sheet_lines.specs.Laws.Lengths.{call-lines-most}
-use Rattle.sheet_lines.specs.Lengths.{callLinesMost, lineMost}
+use Rattle.sheet_lines.specs.Laws.Lengths.{call-lines-most, whole-most}
+use Rattle.sheet_lines.specs.Lengths.{boardLinesMost, lineMost, decimalEnd}
 
--- THE LINES OF THE CALLS: at most 32, of at most 91 bytes. The code counts the calls
+-- A NUMBER OF SLOTS has a decimal: there are no more than 1,024
+has-decimal : (n : ℕ) → n ≤ slotsLength → n < decimalEnd
+has-decimal n h = omega arith
+
+total-small : (slots : List ℕ) → slotCount (open? slots) < decimalEnd
+total-small slots = has-decimal (slotCount (open? slots)) (slots-most (open? slots))
+
+-- THE LINES OF THE BOARD: of at most 32 calls, each of at most 91 bytes, and of the whole. The code counts the calls and the open slots
 module _ (counts : List ℕ) (size : length counts ≡ 32) (n : ℕ) (is : n ≡ length (upToZero counts)) where
   pub calls-most : n ≤ 32
   calls-most = omega (arith, count-most counts)
 
-  pub calls-room : (slots : List ℕ) {place : ℕ} {out : List ℕ} → Room place callLinesMost out → Room place (length (joined (slotLine slots) n)) out
-  calls-room slots room = room-less room (omega (arith, calls-most, call-lines-most slots n calls-most))
+  module _ (slots : List ℕ) where
+    pub calls-room : {place : ℕ} {out : List ℕ} → Room place boardLinesMost out → Room place (length (joined (slotLine slots) n)) out
+    calls-room room = room-less room (omega (arith, calls-most, call-lines-most slots n calls-most))
 
-  pub calls-appended : (slots : List ℕ) {place r : ℕ} {old new : List ℕ} → Appended (joined (slotLine slots) n) place old new r → Appended (countedLines counts slots) place old new r
-  unfolding countedLines
-  calls-appended slots a = append-same (ap (λ (k : ℕ). joined (slotLine slots) k) is) a
+    -- there is none where there is no call
+    pub none-appended : n ≡ 0 → (place : ℕ) (out : List ℕ) → Appended (countedLines counts slots) place out out place
+    unfolding countedLines
+    none-appended none place out =
+        append-same (rw (eq-eqb (length (upToZero counts)) 0 (sym is ∙ none)) refl) (append-none place out)
 
-call-bytes-most : (counts slots : List ℕ) → length counts ≡ 32 → length (countedLines counts slots) ≤ callLinesMost
+    module _ (total : ℕ) (whole : total ≡ slotCount (open? slots)) {place at : ℕ} {old mid : List ℕ} (a : Appended (joined (slotLine slots) n) place old mid at) where
+      -- what the function that writes the whole's line asks
+      pub total-asks : Room place boardLinesMost old → Room at (length (totalLine total)) mid × (total < decimalEnd)
+      total-asks room =
+          let small : total < decimalEnd = rw whole (total-small slots) in
+          (room-after room a (whole-most slots n total calls-most small), small)
+
+      pub board-appended : (n ≡ 0 → ⊥) → {r : ℕ} {new : List ℕ} → Appended (totalLine total) at mid new r → Appended (countedLines counts slots) place old new r
+      unfolding countedLines
+      board-appended some b =
+          append-same
+          (rw (ne-eqb (length (upToZero counts)) 0 (λ e. some (is ∙ e)), whole, is) refl)
+          (append-more a b)
+
+joined-or-none : (b : Bool) (xs ys : List ℕ) (most : ℕ) → length xs + length ys ≤ most → length (cond b [] (xs ++ ys)) ≤ most
+joined-or-none true xs ys most h = omega arith
+joined-or-none false xs ys most h = omega (arith, length-append xs ys)
+
+board-bytes-most : (counts slots : List ℕ) → length counts ≡ 32 → length (countedLines counts slots) ≤ boardLinesMost
 unfolding countedLines
-call-bytes-most counts slots size =
-    let most = calls-most counts size (length (upToZero counts)) refl in
-    omega (arith, most, call-lines-most slots (length (upToZero counts)) most)
+board-bytes-most counts slots size =
+    let n = length (upToZero counts) in
+    let total = slotCount (open? slots) in
+    joined-or-none (eqb n 0) (joined (slotLine slots) n) (totalLine total) boardLinesMost
+    (whole-most slots n total (calls-most counts size n refl) (total-small slots))
 
 -- BEFORE THE FIRST ROUND
 pub reached-start : (input : List ℕ) (p : Progress) (s : State) (out : List ℕ) → p .read ≡ 0 → p .written ≡ 0 → Represents fresh s → Reached input p s out out
@@ -100,7 +136,7 @@ module _ (input : List ℕ) (p : Progress) (s : State) (old mid : List ℕ) (r :
   pub advance-room : p .read < length input → Room (p .written) lineMost mid
   advance-room further = record { fits = omega (arith, r .appended .size, r .short, fits .input-most, fits .room) }
 
-  pub board-room : Room (p .written) callLinesMost mid
+  pub board-room : Room (p .written) boardLinesMost mid
   board-room = record { fits = omega (arith, r .appended .size, r .short, r .inside, fits .input-most, fits .room) }
 
   -- after the last round, with the lines of the board, it is all lines
@@ -110,7 +146,7 @@ module _ (input : List ℕ) (p : Progress) (s : State) (old mid : List ℕ) (r :
   reached-end last new n a =
       record {
         appended = append-same lines (append-more (r .appended) a);
-        most = omega (arith, a .place, r .short, r .inside, fits .input-most, call-bytes-most (s .value .heads .counts) (s .slots) (r .represents .stored .headed .counts-size));
+        most = omega (arith, a .place, r .short, r .inside, fits .input-most, board-bytes-most (s .value .heads .counts) (s .slots) (r .represents .stored .headed .counts-size));
       }
     where
       lines : r .lines ++ countedLines (s .value .heads .counts) (s .slots) ≡ fileLines input

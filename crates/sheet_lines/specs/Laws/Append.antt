@@ -37,6 +37,14 @@ append-more {xs} {ys} {at} {m} {r} {old} {mid} {new} x y =
 pub room-less : {at m n : ℕ} {out : List ℕ} → Room at n out → m ≤ n → Room at m out
 room-less r h = let f = r .fits in record { fits = omega arith }
 
+-- room for bytes and more is room for the more, once the bytes are written
+pub room-after : {bytes : List ℕ} {at m n k : ℕ} {old mid : List ℕ} → Room at n old → Appended bytes at old mid m → length bytes + k ≤ n → Room m k mid
+room-after r a h =
+    let f = r .fits in
+    let p = a .place in
+    let s = a .size in
+    record { fits = omega arith }
+
 -- the bytes may be put in other words
 pub append-same : {xs ys : List ℕ} {at r : ℕ} {old new : List ℕ} → xs ≡ ys → Appended xs at old new r → Appended ys at old new r
 append-same e x = rw e at x
@@ -52,8 +60,4 @@ pub room-first : {x : List ℕ} {xs : List (List ℕ)} {at : ℕ} {out : List �
 room-first {x} {xs} r = let f = r .room .fits in record { fits = omega (arith, length-append x (allParts xs)) }
 
 pub room-rest : {x : List ℕ} {xs : List (List ℕ)} {at m : ℕ} {old mid : List ℕ} → RoomFor (x ∷ xs) at old → Appended x at old mid m → RoomFor xs m mid
-room-rest {x} {xs} r a =
-    let f = r .room .fits in
-    let p = a .place in
-    let s = a .size in
-    record { room = record { fits = omega (arith, length-append x (allParts xs)) } }
+room-rest {x} {xs} r a = record { room = room-after (r .room) a (omega (arith, length-append x (allParts xs))) }

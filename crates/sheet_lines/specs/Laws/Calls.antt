@@ -1,25 +1,28 @@
--- The lines of the calls, slot by slot; on a state that is a ledger's they are the definition's. Assumes nothing.
+-- The lines of the calls, slot by slot, and of the whole board; on a state that is a ledger's they are the definition's. Assumes nothing.
 use mathlib.Core.Path.{_≡_, refl, sym, ap, _∙_}
 use mathlib.Core.Bool.{Bool, true, false, cond}
 use mathlib.Core.List.{List, [], _∷_, _++_}
 use Prim.Native.Nat.{ℕ, zero, suc, _+_, _≤_, _<_}
 use native.Mathlib.Omega.{arith}
 use lib.ListN.{length}
+use lib.Dec.{eqb}
 use borrow.Author.Tests.{eq-eqb, ne-eqb}
 use Rattle.model.specs.Board.{Shape}
 use Rattle.model.specs.Tests.{upFrom, keepOnly}
 use Rattle.model.specs.Filter.{in?, openOf}
 use Rattle.model.specs.Ledger.{Ledger}
-use Rattle.model.specs.Report.{open?}
+use Rattle.model.specs.Report.{slotCount, open?}
 use Rattle.model.specs.Representation.{Represents}
-use Rattle.model.specs.Sheet.{spaced, line, callLine, callLines, boardLines}
+use Rattle.model.specs.Sheet.{spaced, line, totalLine, callLine, callLines, boardLines}
+use Rattle.model.specs.Summary.{openTotal}
 use Rattle.model.specs.Laws.Reports.{open-in}
+use Rattle.model.specs.Laws.Summary.{total-of-bytes}
 use Rattle.sheet_lines.specs.Append.{Split}
 use Rattle.sheet_lines.specs.Joined.{joined}
 use Rattle.sheet_lines.specs.Lines.{lineParts}
 use Rattle.layout.specs.Places.{causeOf}
 use Rattle.layout.specs.Memory.{State}
-use Rattle.sheet_lines.specs.Calls.{openNumbers, slotLine, openNumber}
+use Rattle.sheet_lines.specs.Calls.{openNumbers, slotLine, openNumber, callsAndTotal}
 use Rattle.sheet_lines.specs.Laws.Joined.{joined-over, joined-same}
 use Rattle.sheet_lines.specs.Laws.Lines.{spaced-append, line-parts}
 
@@ -53,6 +56,11 @@ keep-same : (f g : ℕ → Bool) (i n : ℕ) → ((t : ℕ) → t < i + n → f 
 keep-same f g i zero same = refl
 keep-same f g i (suc n) same = let e = keep-same f g (suc i) n (λ t h. same t (omega arith)) in let d = same i (omega arith) in rw (e, d) refl
 
+-- lines of calls and a total that agree
+calls-and-total-same : (n : ℕ) (lines lines′ : List ℕ) (total total′ : ℕ) → lines ≡ lines′ → total ≡ total′
+    → cond (eqb n 0) [] (lines ++ totalLine total) ≡ cond (eqb n 0) [] (lines′ ++ totalLine total′)
+calls-and-total-same n lines lines′ total total′ same counted = rw (same, counted) refl
+
 module _ (L : Ledger) (s : State) (rep : Represents L s) where
   slot-line : (c : ℕ) → c < 32 → slotLine (s .slots) c ≡ callLine (openOf (L .board)) c
   unfolding slotLine openNumbers
@@ -65,6 +73,9 @@ module _ (L : Ledger) (s : State) (rep : Represents L s) where
       joined-same (slotLine (s .slots)) (callLine (openOf (L .board))) n (λ c lc. slot-line c (omega arith))
       ∙ joined-over (callLine (openOf (L .board))) (callLines (openOf (L .board))) refl (λ c cs. refl) n
 
-  -- with the number of calls they are the board's
-  pub board-lines : Shape (L .board) → joined (slotLine (s .slots)) (length (L .board .counts)) ≡ boardLines (L .board)
-  board-lines shape = call-lines (length (L .board .counts)) (shape .calls)
+  -- with the number of calls, and the open slots of the whole behind them, they are the board's
+  pub board-lines : Shape (L .board) → callsAndTotal (length (L .board .counts)) (s .slots) ≡ boardLines (L .board)
+  board-lines shape =
+      let n = length (L .board .counts) in
+      calls-and-total-same n (joined (slotLine (s .slots)) n) (callLines (openOf (L .board)) (upFrom 0 n)) (slotCount (open? (s .slots))) (openTotal (L .board))
+      (call-lines n (shape .calls)) (sym (total-of-bytes L s rep))

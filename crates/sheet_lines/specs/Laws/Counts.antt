@@ -11,8 +11,7 @@ use Rattle.model.specs.Board.{Board, Shape}
 use Rattle.model.specs.Ledger.{Ledger, upToZero}
 use Rattle.model.specs.Representation.{Headed, Represents}
 use Rattle.model.specs.Sheet.{boardLines}
-use Rattle.sheet_lines.specs.Joined.{joined}
-use Rattle.sheet_lines.specs.Calls.{slotLine}
+use Rattle.sheet_lines.specs.Calls.{callsAndTotal}
 use Rattle.layout.specs.Memory.{State}
 use Rattle.sheet_lines.specs.Laws.Calls.{board-lines}
 
@@ -38,9 +37,9 @@ calls-counted B {h} shape headed =
     end (inl e) = List·getD-eq-default (h .counts) 0 (omega (arith, headed .counts-size))
     end (inr lt) = headed .counts (length (B .counts)) lt ∙ List·getD-eq-default (B .counts) 0 (omega arith)
 
--- so the lines of the calls that are counted are the board's
+-- so the lines with that number of calls are the board's
 pub counted-lines : (L : Ledger) (s : State) → Shape (L .board) → Represents L s
-    → joined (slotLine (s .slots)) (length (upToZero (s .value .heads .counts))) ≡ boardLines (L .board)
+    → callsAndTotal (length (upToZero (s .value .heads .counts))) (s .slots) ≡ boardLines (L .board)
 counted-lines L s shape rep = rw (calls-counted (L .board) shape (rep .stored .headed)) (board-lines L s rep shape)
 
 -- no more are counted than there are counts

@@ -10,7 +10,7 @@ use lib.ListN.{length, take, getD, length-append}
 use lib.Seq.{take-suc}
 use Rattle.model.specs.Tests.{upFrom}
 use Rattle.sheet_lines.specs.Append.{Room, Appended}
-use Rattle.sheet_lines.specs.Laws.Append.{append-none, append-more}
+use Rattle.sheet_lines.specs.Laws.Append.{append-none, append-more, room-after}
 use Rattle.sheet_lines.specs.Joined.{joined}
 
 module _ (f : ℕ → List ℕ) where
@@ -37,11 +37,7 @@ module _ (f : ℕ → List ℕ) where
       go ih (inr l) = omega (arith, ih l, length-append (joined f n) (f n))
 
   pub joined-room : {i n at m : ℕ} {old mid : List ℕ} → i < n → Room at (length (joined f n)) old → Appended (joined f i) at old mid m → Room m (length (f i)) mid
-  joined-room {i} {n} h room x =
-      let r = room .fits in
-      let p = x .place in
-      let s = x .size in
-      record { fits = omega (arith, joined-longer i n h) }
+  joined-room {i} {n} h room x = room-after room x (joined-longer i n h)
 
   -- where each is of at most k bytes, n of them are of at most k * n
   pub joined-most : (k n : ℕ) → ((i : ℕ) → i < n → length (f i) ≤ k) → length (joined f n) ≤ k * n

@@ -10,13 +10,13 @@ use lib.Dec.{leb}
 use borrow.Author.Tests.{lt-leb}
 use Rattle.model.specs.Tests.{upFrom, keepOnly}
 use Rattle.model.specs.Report.{open?}
-use Rattle.model.specs.Sheet.{decimal, spaced, line, acceptedLine, refusedLine}
+use Rattle.model.specs.Sheet.{decimal, spaced, line, acceptedLine, refusedLine, totalLine}
 use Rattle.sheet_lines.specs.Joined.{joined}
 use Rattle.sheet_lines.specs.Digits.{digitIf}
 use Rattle.sheet_lines.specs.Calls.{openNumbers, slotLine}
 use Rattle.sheet_lines.specs.Laws.Digits.{decimal-parts}
 use Rattle.sheet_lines.specs.Laws.Joined.{joined-most}
-use Rattle.sheet_lines.specs.Lengths.{reaches, callLineMost, decimalEnd, lineMost}
+use Rattle.sheet_lines.specs.Lengths.{reaches, callLineMost, decimalEnd, lineMost, totalLineMost, boardLinesMost}
 use Rattle.layout.specs.Sizes.{slotsLength}
 
 pub reaches-most : (n w : ℕ) → reaches n w ≤ 1
@@ -114,3 +114,11 @@ slot-line-most slots c h =
 
 pub call-lines-most : (slots : List ℕ) (n : ℕ) → n ≤ 32 → length (joined (slotLine slots) n) ≤ callLineMost * n
 call-lines-most slots n h = joined-most (slotLine slots) callLineMost n (λ c lc. slot-line-most slots c (omega arith))
+
+-- the line of the whole board: a letter, a space, four digits and byte 10
+pub total-most : (total : ℕ) → total < decimalEnd → length (totalLine total) ≤ totalLineMost
+total-most total h = omega (arith, line-length 116 (total ∷ []), spaced-length total [], four-digits total h)
+
+-- the lines of the board: of at most 32 calls, and of the whole
+pub whole-most : (slots : List ℕ) (n total : ℕ) → n ≤ 32 → total < decimalEnd → length (joined (slotLine slots) n) + length (totalLine total) ≤ boardLinesMost
+whole-most slots n total h small = omega (arith, call-lines-most slots n h, total-most total small)

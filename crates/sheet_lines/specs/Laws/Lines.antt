@@ -2,9 +2,9 @@
 use mathlib.Core.Path.{_≡_, refl, sym, ap, _∙_}
 use mathlib.Core.List.{List, [], _∷_, _++_, append-assoc}
 use Prim.Native.Nat.{ℕ}
-use Rattle.model.specs.Sheet.{decimal, spaced, line, acceptedLine}
+use Rattle.model.specs.Sheet.{decimal, spaced, line, acceptedLine, totalLine}
 use Rattle.sheet_lines.specs.Append.{Split}
-use Rattle.sheet_lines.specs.Lines.{start, spacedParts, lineParts, acceptedParts}
+use Rattle.sheet_lines.specs.Lines.{start, spacedParts, lineParts, acceptedParts, totalParts}
 
 pub spaced-parts : (n : ℕ) → Split (spacedParts n) (spaced (n ∷ []))
 spaced-parts n = record { same = refl }
@@ -26,3 +26,6 @@ accepted-parts k s r =
     let numbers : spaced (s ∷ []) ++ (spaced (r ∷ []) ++ (10 ∷ [])) ≡ spaced (s ∷ r ∷ []) ++ (10 ∷ []) =
     sym (append-assoc (spaced (s ∷ [])) (spaced (r ∷ [])) (10 ∷ [])) ∙ ap (λ (l : List ℕ). l ++ (10 ∷ [])) (spaced-append (s ∷ []) (r ∷ [])) in
     record { same = ap (λ (l : List ℕ). start 97 k ++ l) numbers ∙ line-parts 97 k (s ∷ r ∷ []) .same }
+
+pub total-parts : (total : ℕ) → Split (totalParts total) (totalLine total)
+total-parts total = record { same = refl }

@@ -23,20 +23,20 @@ command-place c =
     let start = decoded .before .before .before .before .before .before in
     decoded-inside (start .args .file .now) (start .args .position .at) (decoded .decode .result) (decoded .decode .ensures) _ (c .enum-told .given .1)
 
-sub-command : tie.Need-sub-command
-sub-command c =
+sub-obey-bytes : tie.Need-sub-obey-bytes
+sub-obey-bytes c =
     omega (arith, command-place c .0)
 
-part-command-start : tie.Need-part-command-start
-part-command-start c =
+part-obey-bytes-start : tie.Need-part-obey-bytes-start
+part-obey-bytes-start c =
     omega (arith, command-place c .0)
 
-part-command-end : tie.Need-part-command-end
-part-command-end c =
+part-obey-bytes-end : tie.Need-part-obey-bytes-end
+part-obey-bytes-end c =
     omega (arith, command-place c .1)
 
-command-requires : tie.Need-command-requires
-command-requires c κs = search needs
+obey-bytes-requires : tie.Need-obey-bytes-requires
+obey-bytes-requires c κs = search needs
 
 add-t18 : tie.Need-add-t18
 add-t18 c =
@@ -65,7 +65,7 @@ returns c =
     let told = entered .before .before .before .before .before in
     let decoded = told .before .before in
     let start = decoded .before .before .before .before .before .before in
-    taken-command _ _ _ _ (decoded .decode .ensures) _ _ _ (told .enum-told .given .1) refl refl refl _ (start .pre .0) (entered .command .ensures)
+    taken-command _ _ _ _ (decoded .decode .ensures) _ _ _ (told .enum-told .given .1) refl refl refl _ (entered .obey-bytes .ensures)
 
 returns-2 : tie.Need-returns-2
 returns-2 c =
@@ -80,10 +80,10 @@ take-next-spec =
     (tie.spec
     decode-requires
     enum-told
-    sub-command
-    part-command-start
-    part-command-end
-    command-requires
+    sub-obey-bytes
+    part-obey-bytes-start
+    part-obey-bytes-end
+    obey-bytes-requires
     add-t18
     enum-known-read
     enum-told-2

@@ -1,0 +1,135 @@
+// A command on value and buffers, and the records that it leaves for the table. The table itself is not here: its length is a number, so that 22 is decided with the
+// other refusals, and the records are handed on by value with how many of them are to be stored.
+use layout::summary::RECORDS;
+use layout::summary::Table;
+use layout::value::Value;
+use layout::value::bad_lengths;
+use model::answer::Answer;
+use model::answer::Outcome;
+use model::command::Decoded;
+use model::command::Read;
+use model::refusal::BODY_LENGTH;
+use model::refusal::BUFFER_LENGTH;
+use model::refusal::TABLE_LENGTH;
+use model::refusal::UNKNOWN_KIND;
+use summary_counts::records::table_of;
+ghost use mathlib.Core.Path.{_≡_};
+ghost use lib.ListN.{length};
+ghost use Rattle.model.specs.Commands.{readAt};
+ghost use Rattle.model.specs.Ledger.{lengths};
+ghost use Rattle.model.specs.Promise.{MemoryPromise, Promise};
+ghost use Rattle.layout.specs.Bounds.{Sizes};
+ghost use Rattle.layout.specs.Memory.{memory, wholeOf};
+ghost use Rattle.layout.specs.Sizes.{slotsLength};
+ghost use Rattle.board.specs.Store.{Stores, WithRecords, noneToStore};
+
+// What is left of a command: its outcome, and the first so many records to be stored, none or all.
+pub struct Done {
+    pub outcome: Outcome,
+    pub count: usize,
+    pub table: Table,
+}
+
+// What was read at the first byte is refused by its form, or obeyed.
+fn obey_read(
+    value: Value,
+    decoded: Decoded,
+    bytes: &[u8],
+    rows: &mut [u8],
+    killers: &mut [u8],
+    slots: &mut [u8],
+) -> Outcome
+    requires { ⌜ Sizes (now rows) (now killers) (now slots) ⌝ }
+    requires { ⌜ decoded ≡ readAt (now bytes) 0 ⌝ }
+    ensures { λ o. ⌜ MemoryPromise lengths
+        (memory value (rows .entry) (killers .entry) (slots .entry)) (now (bytes .entry))
+        (o .answer) (memory (o .value) (rows .exit) (killers .exit) (slots .exit)) ⌝ }
+{
+    let read = decoded.read;
+    let counts = decoded.counts;
+    match read {
+        Read::Command(c) => {
+            if decoded.next < bytes.len() {
+                Outcome::refused(BODY_LENGTH, value)
+            } else {
+                command_obey::obey(value, c, counts, rows, killers, slots)
+            }
+        }
+        Read::Refused(_, n) => Outcome::refused(n, value),
+        Read::End => Outcome::refused(UNKNOWN_KIND, value),
+    }
+}
+
+// The command on buffers of the right lengths.
+pub fn obey_bytes(
+    value: Value,
+    bytes: &[u8],
+    rows: &mut [u8],
+    killers: &mut [u8],
+    slots: &mut [u8],
+) -> Outcome
+    requires { ⌜ Sizes (now rows) (now killers) (now slots) ⌝ }
+    ensures { λ r. ⌜ MemoryPromise lengths
+        (memory value (rows .entry) (killers .entry) (slots .entry)) (now (bytes .entry))
+        (r .answer) (memory (r .value) (rows .exit) (killers .exit) (slots .exit)) ⌝ }
+{
+    let decoded = command_decode::decode(bytes, 0);
+    obey_read(value, decoded, bytes, rows, killers, slots)
+}
+
+// Nothing is to be stored.
+fn none_to_store(outcome: Outcome) -> Done
+    ensures { λ r. ⌜ r ≡ noneToStore outcome ⌝ }
+{
+    Done {
+        outcome,
+        count: 0,
+        table: Table::empty(),
+    }
+}
+
+// The records of the heads that are left and of the slot bytes, where the command was accepted.
+fn with_records(outcome: Outcome, slots: &[u8]) -> Done
+    requires { ⌜ length (now slots) ≡ slotsLength ⌝ }
+    ensures { λ r. ⌜ WithRecords outcome (now (slots .entry)) r ⌝ }
+{
+    let answer = outcome.answer;
+    match answer {
+        Answer::Accepted(_) => {
+            let value = outcome.value;
+            let heads = value.heads;
+            let table = table_of(heads, slots);
+            Done {
+                outcome,
+                count: RECORDS,
+                table,
+            }
+        }
+        Answer::Refused(_) => none_to_store(outcome),
+    }
+}
+
+// The command with a table of n records.
+pub fn command_core(
+    value: Value,
+    bytes: &[u8],
+    rows: &mut [u8],
+    killers: &mut [u8],
+    slots: &mut [u8],
+    n: usize,
+) -> Done
+    ensures { λ r. ⌜ Stores
+        (λ old new. Promise
+        (wholeOf (memory value (rows .entry) (killers .entry) (slots .entry)) old) (now (bytes .entry)) (r .outcome .answer)
+        (wholeOf (memory (r .outcome .value) (rows .exit) (killers .exit) (slots .exit)) new))
+        n (r .count) (r .table .records) ⌝ }
+{
+    if bad_lengths(rows, killers, slots) {
+        return none_to_store(Outcome::refused(BUFFER_LENGTH, value));
+    }
+    if n != RECORDS {
+        return none_to_store(Outcome::refused(TABLE_LENGTH, value));
+    }
+    let outcome = obey_bytes(value, bytes, rows, killers, slots);
+    with_records(outcome, slots)
+}

@@ -1,0 +1,5 @@
+-- The theorems over the definitions.
+pub mod Counts
+pub mod Rules
+pub mod Records
+pub mod Counted
