@@ -1,6 +1,8 @@
 // What the questions read: bytes of the value and of the lent buffers.
+use crate::weights::slot_weights;
 use layout::places::byte_at;
 use layout::places::cap;
+ghost use mathlib.Core.Bool.{cond};
 ghost use mathlib.Core.Path.{_≡_};
 ghost use Prim.Native.Nat.{_+_};
 ghost use lib.Dec.{eqb};
@@ -8,7 +10,6 @@ ghost use Rattle.layout.specs.Places.{columnsOf, rowsOf};
 ghost use Rattle.model.specs.Tests.{first};
 ghost use Rattle.model.specs.Report.{open?};
 ghost use Rattle.model.specs.Questions.{maskOf, supports?};
-ghost use Rattle.questions.specs.Mask.{digit};
 ghost use Rattle.questions.specs.Parts.{searchParts, Searchable};
 
 // The columns of a rule; 0 where the number is not in force.
@@ -25,23 +26,24 @@ pub fn rows_of(lengths: &[u8; 64], rule: u8) -> usize
     cap(byte_at(lengths, rule as usize), 64)
 }
 
-// 1 for the byte of an open slot.
-fn open_bit(byte: u8) -> u32
-    ensures { λ r. ⌜ r ≡ digit (eqb byte 255) ⌝ }
+// What a slot with this byte and this weight adds to a mask: its weight if it is open.
+fn if_open(byte: u8, weight: u32) -> u32
+    ensures { λ r. ⌜ r ≡ cond (eqb byte 255) weight 0 ⌝ }
 {
-    if byte == 255 { 1 } else { 0 }
+    if byte == 255 { weight } else { 0 }
 }
 
-// The mask of a call's open slots: from the highest slot down, each doubling makes room for the next slot's bit.
+// The mask of a call's open slots: the sum of their weights.
 pub fn open_mask(slots: &[u8], call: u8) -> u32
     ensures { λ r. ⌜ r ≡ maskOf 32 (open? (now (slots .entry)) call) ⌝ }
 {
     let base = 32 * (call as usize);
+    let weights = slot_weights();
     let mut mask: u32 = 0;
-    let mut s: usize = 32;
-    while 0 < s {
-        s -= 1;
-        mask = mask * 2 + open_bit(byte_at(slots, base + s));
+    let mut s: usize = 0;
+    while s < 32 {
+        mask += if_open(byte_at(slots, base + s), weights[s]);
+        s += 1;
     }
     mask
 }

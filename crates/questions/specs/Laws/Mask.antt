@@ -1,16 +1,21 @@
--- Laws of the mask: what one slot more does to it, its bound, and the number of its ones. Assumes nothing.
-use mathlib.Core.Path.{_≡_, refl, ap, ap₂, _∙_}
+-- Laws of the mask: its bound, what one slot more does to it, the weights of a table that keeps the rule, and the number of ones. Assumes nothing.
+use mathlib.Core.Path.{_≡_, refl, sym, ap, ap₂, _∙_}
 use mathlib.Core.Bool.{Bool, true, false, cond}
-use Prim.Native.Nat.{ℕ, zero, suc, _+_, _-_, _*_, _^_, _<_, _≤_}
-use native.Mathlib.Nat.{zero-add, mul-assoc, mul-right-comm, add-mul, pow-suc, mul-le-mul-left}
+use mathlib.Core.List.{List}
+use Prim.Native.Nat.{ℕ, zero, suc, _+_, _*_, _^_, _<_, _≤_}
+use native.Mathlib.Nat.{pow-suc}
+use native.Mathlib.Numerals.{add-one}
 use native.Mathlib.Omega.{arith}
 use lib.Pow.{pow-mono}
+use lib.ListN.{getD}
+use lib.Dec.{T, eqb, eqb→eq}
 use lib.Arith.{digits-div, digits-mod}
 use lib.Count.{ones, ones-step}
 use Rattle.model.specs.Tests.{countBelow}
 use Rattle.model.specs.Questions.{maskOf}
+use Rattle.model.specs.Laws.Tests.{every→}
 use Rattle.model.specs.Laws.Masks.{mask-lowest}
-use Rattle.questions.specs.Mask.{digit, Doubled}
+use Rattle.questions.specs.Mask.{digit, SummedTo, Weights, weights?}
 
 pub digit-below : (b : Bool) → digit b < 2
 digit-below true = omega arith
@@ -25,27 +30,28 @@ mask-below (suc n) f = go (f n) (mask-below n f)
     go true h = omega (arith, pow-suc 2 n)
     go false h = omega (arith, pow-suc 2 n)
 
-pub doubled-none : (f : ℕ → Bool) → Doubled f 32 0
-doubled-none f = record { whole = zero-add (maskOf 32 f) }
+-- a table that passes the test keeps the rule at each entry
+pub weights-tested : (table : List ℕ) → T (weights? table) → Weights table
+weights-tested table passes =
+    record { each = λ s h. eqb→eq (getD table s 0) (2 ^ s) (every→ 32 (λ s. eqb (getD table s 0) (2 ^ s)) passes s h) }
 
--- slot n goes in below the slots from n + 1 on
-split : (n m : ℕ) (f : ℕ → Bool) → (m * 2 + digit (f n)) * 2 ^ n + maskOf n f ≡ m * 2 ^ suc n + maskOf (suc n) f
-split n m f = rw (pow-suc 2 n, ← mul-assoc m (2 ^ n) 2, add-mul (m * 2) (digit (f n)) (2 ^ n), mul-right-comm m 2 (2 ^ n)) (go (f n))
+-- THE MASK, SLOT BY SLOT: w is the weight of slot n by the table, if it passes
+pub summed-none : (f : ℕ → Bool) → SummedTo f 0 0
+summed-none f = record { few = omega arith; is = refl }
+
+pub summed-more : {f : ℕ → Bool} {n m w : ℕ} {table : List ℕ} → SummedTo f n m → n < 32 → Weights table → w ≡ cond (f n) (getD table n 0) 0 → SummedTo f (n + 1) (m + w)
+summed-more {f} {n} {m} {w} x h weights is =
+    record { few = omega arith; is = sum (x .is) (is ∙ ap (λ (v : ℕ). cond (f n) v 0) (weights .each n h)) ∙ sym (ap (λ (k : ℕ). maskOf k f) (add-one n)) }
   where
-    go : (b : Bool) → m * 2 ^ n * 2 + digit b * 2 ^ n + maskOf n f ≡ m * 2 ^ n * 2 + (maskOf n f + cond b (2 ^ n) 0)
-    go true = omega arith
-    go false = omega arith
+    sum : {a b : ℕ} → m ≡ a → w ≡ b → m + w ≡ a + b
+    sum p q = cc
 
-pub doubled-more : (f : ℕ → Bool) (n m : ℕ) → 0 < n → Doubled f n m → Doubled f (n - 1) (m * 2 + digit (f (n - 1)))
-doubled-more f zero m h d = absurd (omega arith)
-doubled-more f (suc n) m h d = let e : suc n - 1 ≡ n = omega arith in rw e (record { whole = split n m f ∙ d .whole })
+-- a mask of 32 slots or fewer fits 32 bits
+pub summed-fits : {f : ℕ → Bool} {n m : ℕ} → SummedTo f n m → m < 4294967296
+summed-fits {f} {n} x = let most : 2 ^ n ≤ 2 ^ 32 = pow-mono (x .few) in omega (arith, x .is, mask-below n f)
 
--- what is doubled fits 32 bits, as the whole mask does
-pub doubled-fits : (f : ℕ → Bool) (n m : ℕ) → 0 < n → Doubled f n m → m * 2 + 1 < 4294967296
-doubled-fits f n m h d = let least : 2 ^ 1 ≤ 2 ^ n = pow-mono h in omega (arith, d .whole, mul-le-mul-left m least, mask-below 32 f)
-
-pub doubled-all : (f : ℕ → Bool) (m : ℕ) → Doubled f 0 m → m ≡ maskOf 32 f
-doubled-all f m d = omega (arith, d .whole)
+pub summed-all : {f : ℕ → Bool} {n m : ℕ} → SummedTo f n m → 32 ≤ n → m ≡ maskOf 32 f
+summed-all {f} {n} x g = let e : n ≡ 32 = omega (arith, x .few) in x .is ∙ ap (λ (k : ℕ). maskOf k f) e
 
 -- the count, with the lowest slot apart
 count-lowest : (n : ℕ) (f : ℕ → Bool) → countBelow (suc n) f ≡ countBelow n (λ i. f (suc i)) + digit (f 0)
