@@ -4,6 +4,7 @@ pub mod Refusals
 pub mod Theory
 pub mod Filter
 pub mod Shapes
+pub mod Forms
 pub mod Change
 pub mod Joined
 pub mod Fresh
