@@ -4,7 +4,7 @@ pub mod Refusals
 pub mod Theory
 pub mod Filter
 pub mod Shapes
-pub mod Forms
+pub mod Standing
 pub mod Change
 pub mod Joined
 pub mod Fresh

@@ -8,19 +8,22 @@ use native.Mathlib.Numerals.{add-one}
 use native.Mathlib.Omega.{arith}
 use lib.ListN.{length, getD, set, replicate, length-set, length-append, length-replicate, getD-replicate, List·getD-append, List·getD-eq-default}
 use lib.Seq.{getD-set-same, getD-set-other, getD-append-seam}
-use lib.Dec.{T, ltb}
 use borrow.Author.Tests.{lt-ltb, le-ltb}
 use Rattle.tables.specs.Laws.Facts.{eq-or-ne, lt-or-le}
 use Rattle.layout.specs.Places.{ownPlace}
-use Rattle.model.specs.Forms.{pairOf, pairsTo}
-use Rattle.command_form.specs.Pairs.{withPair, Listed, ListedTo}
+use Rattle.model.specs.Standing.{pairOf, pairsTo}
+use Rattle.model.specs.Laws.Tests.{count-bound}
+use Rattle.model.specs.Laws.Standing.{pairs-count}
+use Rattle.command_standing.specs.Pairs.{withPair, Listed, ListedTo}
 
 pub listed-none : (f : ℕ → ℕ → Bool) → ListedTo f 0 (replicate 256 255) 0
 listed-none f =
     record {
-      size = length-replicate {A = ℕ} 256 255;
-      count-is = refl;
-      bytes = λ w k lw lk. getD-replicate {A = ℕ} 256 (ownPlace w k) 255 0 (omega arith);
+      listed = record {
+        size = length-replicate {A = ℕ} 256 255;
+        count-is = refl;
+        bytes = λ w k lw lk. getD-replicate {A = ℕ} 256 (ownPlace w k) 255 0 (omega arith);
+      };
     }
 
 -- one pair more at the end
@@ -96,14 +99,23 @@ module _ (pairs : List (List ℕ)) (rows : List ℕ) (count a b : ℕ) (old : Li
             bytes = λ w k lw lk. old .bytes w k lw lk ∙ ap (λ (l : List ℕ). getD l k 255) (sym (before w (omega (arith, old .count-is))));
           })
 
--- A PLACE MORE, whose pair passes or does not
-pub listed-more : {f : ℕ → ℕ → Bool} {i count : ℕ} {rows : List ℕ} → ListedTo f i rows count → T (f (i / 32) (i % 32))
-    → ListedTo f (i + 1) (withPair rows count (i / 32) (i % 32)) (count + 1)
-listed-more {f} {i} {count} {rows} old t = rw (add-one i) (go (f (i / 32) (i % 32)) t)
-  where
-    go : (b : Bool) → T b → Listed (pairsTo i f ++ cond b (pairOf i ∷ []) []) (withPair rows count (i / 32) (i % 32)) (count + 1)
-    go true t = listed-pair (pairsTo i f) rows count (i / 32) (i % 32) old
-    go false t = absurd t
+-- A PLACE MORE: t says whether its pair, of a and b, passes
+module _ {f : ℕ → ℕ → Bool} {i count a b : ℕ} {rows : List ℕ} {t : Bool} (old : ListedTo f i rows count) (first : a ≡ i / 32) (second : b ≡ i % 32) (is : t ≡ f a b) where
+  tested : f (i / 32) (i % 32) ≡ t
+  tested = rw (← first, ← second) (sym is)
 
-pub listed-passed-over : {f : ℕ → ℕ → Bool} {i count : ℕ} {rows : List ℕ} → ListedTo f i rows count → f (i / 32) (i % 32) ≡ false → ListedTo f (i + 1) rows count
-listed-passed-over {f} {i} {count} {rows} old e = rw (add-one i, e) (rw (append-nil (pairsTo i f)) old)
+  pub listed-more : t ≡ true → {new : List ℕ} → new ≡ withPair rows count a b → ListedTo f (i + 1) new (count + 1)
+  listed-more passes written =
+      rw (add-one i, written, first, second)
+      (record { listed = rw (tested, passes) (listed-pair (pairsTo i f) rows count (i / 32) (i % 32) (old .listed)) })
+
+  pub listed-passed-over : t ≡ false → ListedTo f (i + 1) rows count
+  listed-passed-over fails = rw (add-one i) (record { listed = rw (tested, fails, append-nil (pairsTo i f)) (old .listed) })
+
+-- there are no more of them than places
+pub listed-few : {f : ℕ → ℕ → Bool} {i count : ℕ} {rows : List ℕ} → ListedTo f i rows count → count ≤ i
+listed-few {f} {i} old = omega (arith, old .listed .count-is, pairs-count i f, count-bound i (λ j. f (j / 32) (j % 32)))
+
+-- after the last place, where the loop's test says that i is n
+pub listed-all : {f : ℕ → ℕ → Bool} {i count : ℕ} {rows : List ℕ} (n : ℕ) → ListedTo f i rows count → i ≤ n → n ≤ i → Listed (pairsTo n f) rows count
+listed-all {f} {i} n old le ge = let e : n ≡ i = omega arith in rw e (old .listed)

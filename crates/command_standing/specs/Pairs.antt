@@ -5,7 +5,7 @@ use mathlib.Core.List.{List, []}
 use Prim.Native.Nat.{ℕ, _+_, _*_, _<_}
 use lib.ListN.{length, getD, set}
 use lib.Dec.{ltb}
-use Rattle.model.specs.Forms.{pairsTo}
+use Rattle.model.specs.Standing.{pairsTo}
 use Rattle.layout.specs.Places.{ownPlace}
 
 -- the row bytes with a pair as row w; as they are where there is no such row
@@ -19,5 +19,5 @@ pub record Listed (pairs : List (List ℕ)) (rows : List ℕ) (count : ℕ) : Ty
   pub bytes : (w k : ℕ) → w < 64 → k < 4 → getD rows (ownPlace w k) 0 ≡ getD (getD pairs w []) k 255
 
 -- those before place i that pass a test
-abbrev pub ListedTo : (ℕ → ℕ → Bool) → ℕ → List ℕ → ℕ → Type 0
-ListedTo f i rows count = Listed (pairsTo i f) rows count
+pub record ListedTo (f : ℕ → ℕ → Bool) (i : ℕ) (rows : List ℕ) (count : ℕ) : Type 0 where
+  pub listed : Listed (pairsTo i f) rows count

@@ -2,7 +2,7 @@
 ghost use mathlib.Core.Path.{_≡_};
 ghost use Prim.Native.Nat.{_+_};
 ghost use lib.Dec.{leb};
-ghost use Rattle.model.specs.Forms.{fits?};
+ghost use Rattle.model.specs.Standing.{fits?};
 
 // Whether the slot a with the gap is at most b.
 fn at_most(a: u8, gap: u8, b: u8) -> bool

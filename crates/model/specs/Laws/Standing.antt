@@ -11,7 +11,7 @@ use lib.ListN.{length, getD, length-append, List·getD-append}
 use lib.Seq.{getD-append-seam}
 use lib.Dec.{T, ltb, ltb→lt, lt→ltb}
 use Rattle.model.specs.Tests.{countBelow}
-use Rattle.model.specs.Forms.{fits?, pairOf, pairsTo, pairTest, formRows}
+use Rattle.model.specs.Standing.{fits?, pairOf, pairsTo, pairTest, standingRows}
 use Rattle.model.specs.Laws.Tests.{and→, →and}
 
 -- a list with one more at the end, if a test passes: its members are the old ones and that one
@@ -65,16 +65,17 @@ row-passed (suc i) f w h =
 -- A PAIR THAT PASSES IS A ROW
 pub passed-row : (n : ℕ) (f : ℕ → ℕ → Bool) (i : ℕ) → i < n → T (f (i / 32) (i % 32)) → (w : ℕ) × (w < length (pairsTo n f)) × (getD (pairsTo n f) w [] ≡ pairOf i)
 passed-row zero f i h t = absurd (omega arith)
-passed-row (suc n) f i h t = go (eq-or-lt-of-le (le-of-suc-le-suc h))
+passed-row (suc n) f i h t = go (λ l. passed-row n f i l t) (eq-or-lt-of-le (le-of-suc-le-suc h))
   where
     new : (b : Bool) → T b → (w : ℕ) × (w < length (longer (pairsTo n f) b (pairOf n))) × (getD (longer (pairsTo n f) b (pairOf n)) w [] ≡ pairOf n)
-    new true t = (length (pairsTo n f), longer-new (pairsTo n f) (pairOf n))
+    new true t = let there = longer-new (pairsTo n f) (pairOf n) in (length (pairsTo n f), there .0, there .1)
     new false t = absurd t
 
-    go : (i ≡ n) ⊎ (i < n) → (w : ℕ) × (w < length (pairsTo (suc n) f)) × (getD (pairsTo (suc n) f) w [] ≡ pairOf i)
-    go (inl e) = rw e (new (f (n / 32) (n % 32)) (rw e at t))
-    go (inr l) =
-        let old = passed-row n f i l t in
+    go : (i < n → (w : ℕ) × (w < length (pairsTo n f)) × (getD (pairsTo n f) w [] ≡ pairOf i)) → (i ≡ n) ⊎ (i < n)
+        → (w : ℕ) × (w < length (pairsTo (suc n) f)) × (getD (pairsTo (suc n) f) w [] ≡ pairOf i)
+    go so-far (inl e) = rw e (new (f (n / 32) (n % 32)) (rw e at t))
+    go so-far (inr l) =
+        let old = so-far l in
         let there = longer-old (pairsTo n f) (f (n / 32) (n % 32)) (pairOf n) (old .0) (old .1) in
         (old .0, there .0, there .1 ∙ old .2)
 
@@ -84,7 +85,7 @@ rank row = 32 * getD row 0 0 + getD row 1 0
 
 pub rows-rise : (n : ℕ) (f : ℕ → ℕ → Bool) (v w : ℕ) → v < w → w < length (pairsTo n f) → rank (getD (pairsTo n f) v []) < rank (getD (pairsTo n f) w [])
 rows-rise zero f v w vw h = absurd (omega arith)
-rows-rise (suc i) f v w vw h = ⊎-elim older newer (longer-at xs b (pairOf i) w h)
+rows-rise (suc i) f v w vw h = ⊎-elim (older (rows-rise i f v w vw)) newer (longer-at xs b (pairOf i) w h)
   where
     xs : List (List ℕ)
     xs = pairsTo i f
@@ -92,8 +93,9 @@ rows-rise (suc i) f v w vw h = ⊎-elim older newer (longer-at xs b (pairOf i) w
     b : Bool
     b = f (i / 32) (i % 32)
 
-    older : (w < length xs) × (getD (longer xs b (pairOf i)) w [] ≡ getD xs w []) → rank (getD (longer xs b (pairOf i)) v []) < rank (getD (longer xs b (pairOf i)) w [])
-    older old = rw (longer-old xs b (pairOf i) v (omega (arith, old .0)) .1, old .1) (rows-rise i f v w vw (old .0))
+    older : (w < length xs → rank (getD xs v []) < rank (getD xs w [])) → (w < length xs) × (getD (longer xs b (pairOf i)) w [] ≡ getD xs w [])
+        → rank (getD (longer xs b (pairOf i)) v []) < rank (getD (longer xs b (pairOf i)) w [])
+    older so-far old = rw (longer-old xs b (pairOf i) v (omega (arith, old .0)) .1, old .1) (so-far (old .0))
 
     newer : T b × (w ≡ length xs) × (getD (longer xs b (pairOf i)) w [] ≡ pairOf i) → rank (getD (longer xs b (pairOf i)) v []) < rank (getD (longer xs b (pairOf i)) w [])
     newer new =
@@ -107,7 +109,7 @@ pub rows-apart : (n : ℕ) (f : ℕ → ℕ → Bool) (v w : ℕ) → v < w → 
 rows-apart n f v w vw h e = let less = rows-rise n f v w vw h in let same = ap rank e in omega arith
 
 -- A ROW OF A FORM has two slots, one of each call, which fit
-pub record FormRow (form gap n m : ℕ) (row : List ℕ) : Type 0 where
+pub record StandingRow (form gap n m : ℕ) (row : List ℕ) : Type 0 where
   pub first : ℕ
   pub second : ℕ
   pub first-on : first < n
@@ -115,8 +117,8 @@ pub record FormRow (form gap n m : ℕ) (row : List ℕ) : Type 0 where
   pub fits : T (fits? form gap first second)
   pub is : row ≡ first ∷ second ∷ []
 
-pub form-row : (form gap n m w : ℕ) → w < length (formRows form gap n m) → FormRow form gap n m (getD (formRows form gap n m) w [])
-form-row form gap n m w h =
+pub standing-row : (form gap n m w : ℕ) → w < length (standingRows form gap n m) → StandingRow form gap n m (getD (standingRows form gap n m) w [])
+standing-row form gap n m w h =
     let p = row-passed (32 * n) (pairTest form gap m) w h in
     let both = and→ (ltb (p .place % 32) m) (fits? form gap (p .place / 32) (p .place % 32)) (p .passes) in
     let below = p .below in
@@ -130,9 +132,9 @@ form-row form gap n m w h =
     }
 
 -- and two slots that fit, one of each call, are a row
-pub row-form : (form gap n m a b : ℕ) → a < n → b < m → m ≤ 32 → T (fits? form gap a b)
-    → (w : ℕ) × (w < length (formRows form gap n m)) × (getD (formRows form gap n m) w [] ≡ a ∷ b ∷ [])
-row-form form gap n m a b la lb few t =
+pub row-standing : (form gap n m a b : ℕ) → a < n → b < m → m ≤ 32 → T (fits? form gap a b)
+    → (w : ℕ) × (w < length (standingRows form gap n m)) × (getD (standingRows form gap n m) w [] ≡ a ∷ b ∷ [])
+row-standing form gap n m a b la lb few t =
     let q : (32 * a + b) / 32 ≡ a = omega arith in
     let r : (32 * a + b) % 32 ≡ b = omega arith in
     rw (q, r) at

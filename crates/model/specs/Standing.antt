@@ -20,5 +20,5 @@ pairsTo (suc i) f = pairsTo i f ++ cond (f (i / 32) (i % 32)) (pairOf i ∷ []) 
 abbrev pub pairTest : ℕ → ℕ → ℕ → ℕ → ℕ → Bool
 pairTest form gap m a b = ltb b m && fits? form gap a b
 
-abbrev pub formRows : ℕ → ℕ → ℕ → ℕ → List (List ℕ)
-formRows form gap n m = pairsTo (32 * n) (pairTest form gap m)
+abbrev pub standingRows : ℕ → ℕ → ℕ → ℕ → List (List ℕ)
+standingRows form gap n m = pairsTo (32 * n) (pairTest form gap m)

@@ -1,11 +1,11 @@
 // The pairs of slots that fit a form, listed as the rows of a draft: in one pass over all pairs, in rising order. All of them are counted, and the first 64 written.
 use crate::fits::fits;
 use layout::places::cap;
-ghost use Prim.Native.Nat.{_<_, min};
+ghost use Prim.Native.Nat.{_+_, _<_, min};
 ghost use mathlib.Core.Path.{_≡_};
 ghost use lib.ListN.{length};
-ghost use Rattle.model.specs.Forms.{pairTest, formRows};
-ghost use Rattle.command_form.specs.Pairs.{Listed, ListedTo, withPair};
+ghost use Rattle.model.specs.Standing.{pairTest, standingRows};
+ghost use Rattle.command_standing.specs.Pairs.{Listed, ListedTo, withPair};
 
 // A form and its gap, and the slots of the second call.
 pub struct Test {
@@ -57,7 +57,7 @@ fn list_pair(rows: &mut [u8; 256], count: usize, test: Test, i: usize) -> usize
 
 // The rows of the test's form on a call with n slots and the second call.
 pub fn list_pairs(test: Test, n: u8) -> Pairs
-    ensures { λ r. ⌜ Listed (formRows (test .form) (test .gap) (min n 32) (test .seconds)) (r .rows) (r .count) ⌝ }
+    ensures { λ r. ⌜ Listed (standingRows (test .form) (test .gap) (min n 32) (test .seconds)) (r .rows) (r .count) ⌝ }
 {
     let mut rows = [255u8; 256];
     let mut count: usize = 0;
