@@ -2,3 +2,4 @@
 // Proved: the rows are those of specs/Standing.antt of the crate model, in their order, and none is left out of the count. Assumed: nothing.
 mod fits; // whether two slots fit a form
 pub mod pairs; // the pairs that fit, listed
+pub mod draft; // the draft of them

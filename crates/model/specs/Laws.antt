@@ -5,6 +5,7 @@ pub mod Theory
 pub mod Filter
 pub mod Shapes
 pub mod Standing
+pub mod OneByOne
 pub mod Change
 pub mod Joined
 pub mod Fresh

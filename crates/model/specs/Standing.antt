@@ -1,8 +1,18 @@
--- STANDING FORMS (order 3): the rows of a rule of two calls that is given by the gap between their slots.
-use mathlib.Core.Bool.{Bool, _&&_, _||_, cond}
+-- STANDING FORMS (order 3): a rule of two calls that is given by the gap between their slots. No command makes one yet.
+use mathlib.Core.Bool.{Bool, not, _&&_, _||_, cond}
 use mathlib.Core.List.{List, [], _∷_, _++_}
 use Prim.Native.Nat.{ℕ, zero, suc, _+_, _*_, _/_, _%_}
+use lib.ListN.{getD}
 use lib.Dec.{eqb, ltb, leb}
+use Rattle.model.specs.declared.command.Standing.{Standing}
+use Rattle.model.specs.Board.{Rule}
+
+-- there is no such form; a gap that no two slots can have, or one that is not 0 where the slots have to be equal
+abbrev pub badForm? : ℕ → Bool
+badForm? form = ltb form 1 || ltb 3 form
+
+abbrev pub badGap? : ℕ → ℕ → Bool
+badGap? form gap = ltb 31 gap || (eqb form 3 && not (eqb gap 0))
 
 -- WHETHER SLOTS a AND b FIT A FORM: 1, a and the gap together are no more than b; 2, a and b are the gap or more apart, whichever is the lower; 3, they are equal
 abbrev pub fits? : ℕ → ℕ → ℕ → ℕ → Bool
@@ -22,3 +32,15 @@ pairTest form gap m a b = ltb b m && fits? form gap a b
 
 abbrev pub standingRows : ℕ → ℕ → ℕ → ℕ → List (List ℕ)
 standingRows form gap n m = pairsTo (32 * n) (pairTest form gap m)
+
+-- THE RULE of a standing form on a board with these slot counts
+abbrev pub standingRule : List ℕ → Standing → Rule
+standingRule counts f =
+    record { scope = f .first ∷ f .second ∷ []; rows = standingRows (f .form) (f .gap) (getD counts (f .first) 0) (getD counts (f .second) 0) }
+
+-- THE SAME RULE SENT BY KINDS 2 AND 3: the bytes of its head, and of a row
+abbrev pub headBytes : Standing → List ℕ
+headBytes f = 2 ∷ f .number ∷ 2 ∷ f .first ∷ f .second ∷ 255 ∷ 255 ∷ []
+
+abbrev pub pairBytes : List ℕ → List ℕ
+pairBytes row = 3 ∷ getD row 0 255 ∷ getD row 1 255 ∷ 255 ∷ 255 ∷ []
