@@ -5,14 +5,14 @@ use Prim.Native.Nat.{ℕ, _%_, min}
 use lib.ListN.{getD}
 use Rattle.model.specs.declared.command.Standing.{Standing}
 use Rattle.model.specs.Standing.{standingRows}
-use Rattle.command_standing.specs.declared.draft.Drafted.{Drafted}
+use Rattle.command_standing.specs.declared.draft.StandingDraft.{StandingDraft}
 use Rattle.command_standing.specs.Pairs.{Listed}
 
 -- the slots of a call, whose number is taken modulo 32
 abbrev pub slotsAt : List ℕ → ℕ → ℕ
 slotsAt counts x = getD counts (x % 32) 0
 
-pub record DraftedBy (counts : List ℕ) (f : Standing) (r : Drafted) : Type 0 where
+pub record DraftOfStanding (counts : List ℕ) (f : Standing) (r : StandingDraft) : Type 0 where
   pub number : r .draft .number ≡ f .number
   pub arity : r .draft .rule .arity ≡ 2
   pub scope : r .draft .rule .scope ≡ f .first ∷ f .second ∷ 255 ∷ 255 ∷ []

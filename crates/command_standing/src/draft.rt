@@ -4,17 +4,17 @@ use crate::pairs::list_pairs;
 use layout::value::Draft;
 use layout::value::RuleData;
 use model::command::Standing;
-ghost use Rattle.command_standing.specs.Draft.{DraftedBy};
+ghost use Rattle.command_standing.specs.Draft.{DraftOfStanding};
 
-pub struct Drafted {
+pub struct StandingDraft {
     pub draft: Draft,
     // how many pairs fit; where it is over 64 the draft is not the form's
     pub count: usize,
 }
 
 // Calls are taken modulo 32, so that any byte names one.
-pub fn draft_of(counts: &[u8; 32], f: Standing) -> Drafted
-    ensures { λ r. ⌜ DraftedBy (now (counts .entry)) f r ⌝ }
+pub fn draft_of(counts: &[u8; 32], f: Standing) -> StandingDraft
+    ensures { λ r. ⌜ DraftOfStanding (now (counts .entry)) f r ⌝ }
 {
     let test = Test {
         form: f.form,
@@ -24,7 +24,7 @@ pub fn draft_of(counts: &[u8; 32], f: Standing) -> Drafted
     let pairs = list_pairs(test, counts[(f.first % 32) as usize]);
     let rows = pairs.rows;
     let count = pairs.count;
-    Drafted {
+    StandingDraft {
         draft: Draft {
             number: f.number,
             rule: RuleData {

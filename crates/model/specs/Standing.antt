@@ -37,10 +37,3 @@ standingRows form gap n m = pairsTo (32 * n) (pairTest form gap m)
 abbrev pub standingRule : List ℕ → Standing → Rule
 standingRule counts f =
     record { scope = f .first ∷ f .second ∷ []; rows = standingRows (f .form) (f .gap) (getD counts (f .first) 0) (getD counts (f .second) 0) }
-
--- THE SAME RULE SENT BY KINDS 2 AND 3: the bytes of its head, and of a row
-abbrev pub headBytes : Standing → List ℕ
-headBytes f = 2 ∷ f .number ∷ 2 ∷ f .first ∷ f .second ∷ 255 ∷ 255 ∷ []
-
-abbrev pub pairBytes : List ℕ → List ℕ
-pairBytes row = 3 ∷ getD row 0 255 ∷ getD row 1 255 ∷ 255 ∷ 255 ∷ []

@@ -1,5 +1,5 @@
 -- ON A BOARD'S COUNTS THE DRAFT IS THE FORM'S RULE, where its calls are on the board and a rule has room for its rows. Assumes nothing.
-use mathlib.Core.Path.{_≡_, refl, sym, ap, ap₂, _∙_}
+use mathlib.Core.Path.{_≡_, refl, ap, _∙_}
 use mathlib.Core.List.{List, [], _∷_}
 use Prim.Native.Nat.{ℕ, zero, suc, _%_, _<_, _≤_, min}
 use native.Mathlib.Omega.{arith}
@@ -8,10 +8,10 @@ use Rattle.layout.specs.declared.value.Heads.{Heads}
 use Rattle.model.specs.declared.command.Standing.{Standing}
 use Rattle.model.specs.Board.{Board, Shape}
 use Rattle.model.specs.Representation.{Headed, RuleHeld}
-use Rattle.model.specs.Standing.{standingRows, standingRule}
-use Rattle.command_standing.specs.declared.draft.Drafted.{Drafted}
+use Rattle.model.specs.Standing.{standingRule}
+use Rattle.command_standing.specs.declared.draft.StandingDraft.{StandingDraft}
 use Rattle.command_standing.specs.Pairs.{Listed}
-use Rattle.command_standing.specs.Draft.{slotsAt, DraftedBy}
+use Rattle.command_standing.specs.Draft.{slotsAt, DraftOfStanding}
 
 module _ (B : Board) (shape : Shape B) (heads : Heads) (headed : Headed B heads) where
   -- a call on the board has the slots that the heads say
@@ -21,7 +21,7 @@ module _ (B : Board) (shape : Shape B) (heads : Heads) (headed : Headed B heads)
       let e : x % 32 ≡ x = omega arith in
       ap (λ (c : ℕ). getD (heads .counts) c 0) e ∙ headed .counts x (omega arith)
 
-  module _ (f : Standing) (r : Drafted) (by : DraftedBy (heads .counts) f r) (first : f .first < length (B .counts)) (second : f .second < length (B .counts)) where
+  module _ (f : Standing) (r : StandingDraft) (by : DraftOfStanding (heads .counts) f r) (first : f .first < length (B .counts)) (second : f .second < length (B .counts)) where
     abbrev rows : List (List ℕ)
     rows = standingRule (B .counts) f .rows
 

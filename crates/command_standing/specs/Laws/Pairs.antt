@@ -1,8 +1,8 @@
 -- A PAIR IS LISTED behind the others: its two slots are written at its row, and the rest of the row held 255 already. Assumes nothing.
 use mathlib.Core.Path.{_≡_, refl, sym, ap, _∙_}
-use mathlib.Core.Bool.{Bool, true, false, cond}
+use mathlib.Core.Bool.{Bool, true, false}
 use mathlib.Core.List.{List, [], _∷_, _++_, append-nil}
-use mathlib.Core.Logic.{_⊎_, inl, inr, ⊎-elim}
+use mathlib.Core.Logic.{⊎-elim}
 use Prim.Native.Nat.{ℕ, zero, suc, _+_, _*_, _/_, _%_, _<_, _≤_}
 use native.Mathlib.Numerals.{add-one}
 use native.Mathlib.Omega.{arith}
@@ -11,7 +11,7 @@ use lib.Seq.{getD-set-same, getD-set-other, getD-append-seam}
 use borrow.Author.Tests.{lt-ltb, le-ltb}
 use Rattle.tables.specs.Laws.Facts.{eq-or-ne, lt-or-le}
 use Rattle.layout.specs.Places.{ownPlace}
-use Rattle.model.specs.Standing.{pairOf, pairsTo}
+use Rattle.model.specs.Standing.{pairsTo}
 use Rattle.model.specs.Laws.Tests.{count-bound}
 use Rattle.model.specs.Laws.Standing.{pairs-count}
 use Rattle.command_standing.specs.Pairs.{withPair, Listed, ListedTo}

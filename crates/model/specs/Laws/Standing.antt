@@ -1,6 +1,6 @@
 -- LAWS OF THE PAIRS THAT PASS A TEST, for any test: each row of them is a pair that passes, each pair that passes is a row, and they rise, so that no two are the
 -- same. Then of the rows of a form. Assumes nothing.
-use mathlib.Core.Path.{_≡_, refl, sym, ap, _∙_}
+use mathlib.Core.Path.{_≡_, refl, ap, _∙_}
 use mathlib.Core.Bool.{Bool, true, false, cond}
 use mathlib.Core.List.{List, [], _∷_, _++_, append-nil}
 use mathlib.Core.Logic.{_≢_, _⊎_, inl, inr, ⊎-elim}
