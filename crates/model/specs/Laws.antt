@@ -4,6 +4,8 @@ pub mod Refusals
 pub mod Theory
 pub mod Filter
 pub mod Shapes
+pub mod Standing
+pub mod OneByOne
 pub mod Change
 pub mod Joined
 pub mod Fresh

@@ -18,6 +18,16 @@ pub struct Row {
     pub slot3: u8,
 }
 
+// A standing form, a rule of two calls by the gap between their slots: what order 3's command will hold. No command has it yet.
+pub struct Standing {
+    // 1, 2 or 3
+    pub form: u8,
+    pub number: u8,
+    pub first: u8,
+    pub second: u8,
+    pub gap: u8,
+}
+
 // A command with its own fields. The 32 counts of kind 1 stand beside it.
 pub enum Command {
     Board,

@@ -1,0 +1,120 @@
+-- A STANDING FORM'S RULE CAN BE SENT ONE BY ONE: its head by kind 2 and its rows by kind 3, none of which is refused, leave the rule as the draft. So it is a rule that the
+-- board could have, since every command keeps the ledger's shape. Assumes nothing.
+use mathlib.Core.Path.{_≡_, refl, sym, ap, subst, _∙_}
+use mathlib.Core.Bool.{Bool, false}
+use mathlib.Core.List.{List, [], _∷_, _++_, map, append-nil, append-assoc}
+use mathlib.Core.Logic.{_≢_}
+use mathlib.Core.Option.{some}
+use Prim.Native.Nat.{ℕ, _*_, _<_, _≤_}
+use native.Mathlib.Omega.{arith}
+use lib.ListN.{length, getD, length-append, List·getD-append}
+use lib.Seq.{getD-append-seam}
+use lib.Dec.{T, eqb, leb, eqb→eq}
+use borrow.Author.Tests.{lt-leb}
+use Rattle.model.specs.declared.command.Standing.{Standing}
+use Rattle.model.specs.Board.{GoodRule}
+use Rattle.model.specs.Tests.{some?, every?}
+use Rattle.model.specs.Ledger.{Ledger, LedgerShape, Member, noBoard?, badNumber?, step, run, lengths, member}
+use Rattle.model.specs.Standing.{pairTest, standingRule}
+use Rattle.model.specs.Samples.{headBytes, rowBytes}
+use Rattle.model.specs.Laws.Tests.{not→, some→, every→}
+use Rattle.model.specs.Laws.Shapes.{shape-run}
+use Rattle.model.specs.Laws.Standing.{StandingRow, standing-row, rows-apart}
+
+-- WHAT IS ASKED of the form by the board: what kind 2 asks of its head, and room for its rows
+pub record Sendable (L : Ledger) (f : Standing) : Type 0 where
+  pub board : noBoard? L ≡ false
+  pub number : badNumber? (f .number) ≡ false
+  pub first-on : leb (length (L .board .counts)) (f .first) ≡ false
+  pub second-on : leb (length (L .board .counts)) (f .second) ≡ false
+  pub apart : eqb (f .first) (f .second) ≡ false
+  pub few : length (standingRule (L .board .counts) f .rows) ≤ 64
+
+-- a row sent by kind 3
+abbrev pub sent : List ℕ → Member
+sent row = member (rowBytes row)
+
+module _ (L : Ledger) (f : Standing) where
+  -- the ledger with the form's head and these rows as its draft
+  abbrev pub headed-with : List (List ℕ) → Ledger
+  headed-with rows = record { board = L .board; draft = some (record { number = f .number; rule = record { scope = f .first ∷ f .second ∷ []; rows = rows } }) }
+
+  abbrev n : ℕ
+  n = getD (L .board .counts) (f .first) 0
+
+  abbrev m : ℕ
+  m = getD (L .board .counts) (f .second) 0
+
+  head-sent : Sendable L f → step L lengths (headBytes (f .number) (f .first ∷ f .second ∷ [])) ≡ headed-with []
+  head-sent s = rw (s .board, s .number, s .first-on, s .second-on, s .apart) refl
+
+  -- a row of two slots, one of each call, that is not among the others
+  pair-sent : (done : List (List ℕ)) (a b : ℕ) → noBoard? L ≡ false → length done < 64 → a < n → b < m
+      → some? (length done) (λ v. every? 2 (λ k. eqb (getD (getD done v []) k 255) (getD (a ∷ b ∷ 255 ∷ 255 ∷ []) k 255))) ≡ false
+      → step (headed-with done) lengths (rowBytes (a ∷ b ∷ [])) ≡ headed-with (done ++ ((a ∷ b ∷ []) ∷ []))
+  pair-sent done a b there room la lb new = rw (there, lt-leb 64 (length done) room, lt-leb n a la, lt-leb m b lb, new) refl
+
+  -- ROWS THAT CAN BE SENT: each of two slots, one of each call, no two the same, and no more than a rule has room for
+  pub record SendableRows (rows : List (List ℕ)) : Type 0 where
+    pub each : (w : ℕ) → w < length rows → StandingRow (f .form) (f .gap) n m (getD rows w [])
+    pub apart : (v w : ℕ) → v < w → w < length rows → getD rows v [] ≢ getD rows w []
+    pub few : length rows ≤ 64
+
+  -- the row behind the others is not among them
+  not-among : (done rest : List (List ℕ)) (x : List ℕ) (a b : ℕ) → SendableRows (done ++ (x ∷ rest)) → x ≡ a ∷ b ∷ []
+      → some? (length done) (λ v. every? 2 (λ k. eqb (getD (getD done v []) k 255) (getD (a ∷ b ∷ 255 ∷ 255 ∷ []) k 255))) ≡ false
+  not-among done rest x a b rows is = not→ (some? (length done) among?) (λ t. same (some→ (length done) among? t))
+    where
+      alike? : ℕ → ℕ → Bool
+      alike? v k = eqb (getD (getD done v []) k 255) (getD (a ∷ b ∷ 255 ∷ 255 ∷ []) k 255)
+
+      among? : ℕ → Bool
+      among? v = every? 2 (alike? v)
+
+      longer : length done < length (done ++ (x ∷ rest))
+      longer = omega (arith, length-append done (x ∷ rest))
+
+      same : (v : ℕ) × (v < length done) × T (among? v) → ⊥
+      same found =
+          let v = found .0 in
+          let lv = found .1 in
+          let old = List·getD-append done (x ∷ rest) [] v lv in
+          let row = rows .each v (omega (arith, longer)) in
+          let is-row : getD done v [] ≡ row .first ∷ row .second ∷ [] = sym old ∙ row .is in
+          let e : row .first ≡ a = sym (ap (λ (l : List ℕ). getD l 0 255) is-row) ∙ eqb→eq (getD (getD done v []) 0 255) a (every→ 2 (alike? v) (found .2) 0 (omega arith)) in
+          let e′ : row .second ≡ b = sym (ap (λ (l : List ℕ). getD l 1 255) is-row) ∙ eqb→eq (getD (getD done v []) 1 255) b (every→ 2 (alike? v) (found .2) 1 (omega arith)) in
+          rows .apart v (length done) lv longer
+          (row .is ∙ ap (λ (c : ℕ). c ∷ row .second ∷ []) e ∙ ap (λ (c : ℕ). a ∷ c ∷ []) e′ ∙ sym is ∙ sym (getD-append-seam done x rest []))
+
+  -- THE ROWS ARE TAKEN one after the other
+  rows-sent : (there : noBoard? L ≡ false) (done rest : List (List ℕ)) → SendableRows (done ++ rest)
+      → run (headed-with done) (map sent rest) ≡ headed-with (done ++ rest)
+  rows-sent there done [] rows = ap headed-with (sym (append-nil done))
+  rows-sent there done (x ∷ rest) rows =
+      let longer : length done < length (done ++ (x ∷ rest)) = omega (arith, length-append done (x ∷ rest)) in
+      let row = rows .each (length done) longer in
+      let is : x ≡ row .first ∷ row .second ∷ [] = sym (getD-append-seam done x rest []) ∙ row .is in
+      let taken : step (headed-with done) lengths (rowBytes x) ≡ headed-with (done ++ (x ∷ [])) =
+      rw is (pair-sent done (row .first) (row .second) there (omega (arith, rows .few)) (row .first-on) (row .second-on)
+      (not-among done rest x (row .first) (row .second) rows is)) in
+      ap (λ (K : Ledger). run K (map sent rest)) taken
+      ∙ rows-sent there (done ++ (x ∷ [])) rest (subst (λ (l : List (List ℕ)). SendableRows l) (sym (append-assoc done (x ∷ []) rest)) rows)
+      ∙ ap headed-with (append-assoc done (x ∷ []) rest)
+
+  -- so the head and then the rows leave the form's rule as the draft
+  pub sent-one-by-one : Sendable L f
+      → run L (member (headBytes (f .number) (f .first ∷ f .second ∷ [])) ∷ map sent (standingRule (L .board .counts) f .rows))
+      ≡ headed-with (standingRule (L .board .counts) f .rows)
+  sent-one-by-one s =
+      let all = standingRule (L .board .counts) f .rows in
+      ap (λ (K : Ledger). run K (map sent all)) (head-sent s)
+      ∙ rows-sent (s .board) [] all
+      (record {
+        each = standing-row (f .form) (f .gap) n m;
+        apart = rows-apart (32 * n) (pairTest (f .form) (f .gap) m);
+        few = s .few;
+      })
+
+  -- and it is one that the board could have
+  pub standing-good : LedgerShape L → Sendable L f → (f .number < 64) × GoodRule (L .board .counts) (standingRule (L .board .counts) f)
+  standing-good shape s = subst LedgerShape (sent-one-by-one s) (shape-run L (member (headBytes (f .number) (f .first ∷ f .second ∷ [])) ∷ map sent (standingRule (L .board .counts) f .rows)) shape) .draft _ refl
