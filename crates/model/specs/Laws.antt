@@ -4,7 +4,7 @@ pub mod Refusals
 pub mod Theory
 pub mod Filter
 pub mod Shapes
-pub mod Standing
+pub mod Gaps
 pub mod OneByOne
 pub mod Change
 pub mod Joined

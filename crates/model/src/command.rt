@@ -18,8 +18,8 @@ pub struct Row {
     pub slot3: u8,
 }
 
-// A standing form, a rule of two calls by the gap between their slots: what order 3's command will hold. No command has it yet.
-pub struct Standing {
+// A rule of two calls by the gap between their slots, order 3's standing form: what its command will hold. No command has it yet.
+pub struct GapRule {
     // 1, 2 or 3
     pub form: u8,
     pub number: u8,

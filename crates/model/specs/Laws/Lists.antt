@@ -168,8 +168,8 @@ module _ (m : Member) (s s′ : Whole) (t : Entered m s s′) (own : lentWith (t
       (standing-own (s .state .slots) (t .handed .state .slots) (t .left .state .slots) (ap (λ (l : CommandLent). l .buffers .slots) own))
       (standing-own (s .table) (t .handed .table) (t .left .table) (ap (λ (l : CommandLent). l .table) own))
 
-  pub good-turn : Promise s (m .bytes) (t .given) s′
-  good-turn = rw (left-stands, ← handed-own) (t .promise)
+  pub own-promise : Promise s (m .bytes) (t .given) s′
+  own-promise = rw (left-stands, ← handed-own) (t .promise)
 
 -- EVERY TURN keeps the whole the ledger's
 pub entered-keeps : (L : Ledger) (m : Member) (s s′ : Whole) → IsOf L s → Entered m s s′ → IsOf (step L (m .lent) (m .bytes)) s′
@@ -188,7 +188,7 @@ entered-keeps L m s s′ is t = go (firstOf (lentConditions (m .lent))) refl
     go zero good =
         let passes = none-holds (lentConditions (m .lent)) tt good in
         let right : m .lent ≡ lentWith s = lent-right (m .lent) (passes refused.bufferLength) (passes refused.tableLength) ∙ sym (is-lengths L s is) in
-        subst (λ (l : CommandLent). IsOf (step L l bytes) s′) (sym right) (promise-keeps L s s′ bytes (t .given) is (good-turn m s s′ t (t .lengths ∙ right)))
+        subst (λ (l : CommandLent). IsOf (step L l bytes) s′) (sym right) (promise-keeps L s s′ bytes (t .given) is (own-promise m s s′ t (t .lengths ∙ right)))
 
 fresh-whole-is : IsOf fresh freshWhole
 fresh-whole-is = (shape-fresh, fresh-represents, fresh-current)

@@ -1,4 +1,4 @@
--- A STANDING FORM'S RULE CAN BE SENT ONE BY ONE: its head by kind 2 and its rows by kind 3, none of which is refused, leave the rule as the draft. So it is a rule that the
+-- A GAP RULE CAN BE SENT ONE BY ONE: its head by kind 2 and its rows by kind 3, none of which is refused, leave the rule as the draft. So it is a rule that the
 -- board could have, since every command keeps the ledger's shape. Assumes nothing.
 use mathlib.Core.Path.{_≡_, refl, sym, ap, subst, _∙_}
 use mathlib.Core.Bool.{Bool, false}
@@ -11,30 +11,30 @@ use lib.ListN.{length, getD, length-append, List·getD-append}
 use lib.Seq.{getD-append-seam}
 use lib.Dec.{T, eqb, leb, eqb→eq}
 use borrow.Author.Tests.{lt-leb}
-use Rattle.model.specs.declared.command.Standing.{Standing}
+use Rattle.model.specs.declared.command.GapRule.{GapRule}
 use Rattle.model.specs.Board.{GoodRule}
 use Rattle.model.specs.Tests.{some?, every?}
 use Rattle.model.specs.Ledger.{Ledger, LedgerShape, Member, noBoard?, badNumber?, step, run, lengths, member}
-use Rattle.model.specs.Standing.{pairTest, standingRule}
+use Rattle.model.specs.Gaps.{pairTest, ruleOfGap}
 use Rattle.model.specs.Samples.{headBytes, rowBytes}
 use Rattle.model.specs.Laws.Tests.{not→, some→, every→}
 use Rattle.model.specs.Laws.Shapes.{shape-run}
-use Rattle.model.specs.Laws.Standing.{StandingRow, standing-row, rows-apart}
+use Rattle.model.specs.Laws.Gaps.{GapRow, gap-row, rows-apart}
 
 -- WHAT IS ASKED of the form by the board: what kind 2 asks of its head, and room for its rows
-pub record Sendable (L : Ledger) (f : Standing) : Type 0 where
+pub record Sendable (L : Ledger) (f : GapRule) : Type 0 where
   pub board : noBoard? L ≡ false
   pub number : badNumber? (f .number) ≡ false
   pub first-on : leb (length (L .board .counts)) (f .first) ≡ false
   pub second-on : leb (length (L .board .counts)) (f .second) ≡ false
   pub apart : eqb (f .first) (f .second) ≡ false
-  pub few : length (standingRule (L .board .counts) f .rows) ≤ 64
+  pub few : length (ruleOfGap (L .board .counts) f .rows) ≤ 64
 
 -- a row sent by kind 3
 abbrev pub sent : List ℕ → Member
 sent row = member (rowBytes row)
 
-module _ (L : Ledger) (f : Standing) where
+module _ (L : Ledger) (f : GapRule) where
   -- the ledger with the form's head and these rows as its draft
   abbrev pub headed-with : List (List ℕ) → Ledger
   headed-with rows = record { board = L .board; draft = some (record { number = f .number; rule = record { scope = f .first ∷ f .second ∷ []; rows = rows } }) }
@@ -56,7 +56,7 @@ module _ (L : Ledger) (f : Standing) where
 
   -- ROWS THAT CAN BE SENT: each of two slots, one of each call, no two the same, and no more than a rule has room for
   pub record SendableRows (rows : List (List ℕ)) : Type 0 where
-    pub each : (w : ℕ) → w < length rows → StandingRow (f .form) (f .gap) n m (getD rows w [])
+    pub each : (w : ℕ) → w < length rows → GapRow (f .form) (f .gap) n m (getD rows w [])
     pub apart : (v w : ℕ) → v < w → w < length rows → getD rows v [] ≢ getD rows w []
     pub few : length rows ≤ 64
 
@@ -103,18 +103,18 @@ module _ (L : Ledger) (f : Standing) where
 
   -- so the head and then the rows leave the form's rule as the draft
   pub sent-one-by-one : Sendable L f
-      → run L (member (headBytes (f .number) (f .first ∷ f .second ∷ [])) ∷ map sent (standingRule (L .board .counts) f .rows))
-      ≡ headed-with (standingRule (L .board .counts) f .rows)
+      → run L (member (headBytes (f .number) (f .first ∷ f .second ∷ [])) ∷ map sent (ruleOfGap (L .board .counts) f .rows))
+      ≡ headed-with (ruleOfGap (L .board .counts) f .rows)
   sent-one-by-one s =
-      let all = standingRule (L .board .counts) f .rows in
+      let all = ruleOfGap (L .board .counts) f .rows in
       ap (λ (K : Ledger). run K (map sent all)) (head-sent s)
       ∙ rows-sent (s .board) [] all
       (record {
-        each = standing-row (f .form) (f .gap) n m;
+        each = gap-row (f .form) (f .gap) n m;
         apart = rows-apart (32 * n) (pairTest (f .form) (f .gap) m);
         few = s .few;
       })
 
   -- and it is one that the board could have
-  pub standing-good : LedgerShape L → Sendable L f → (f .number < 64) × GoodRule (L .board .counts) (standingRule (L .board .counts) f)
-  standing-good shape s = subst LedgerShape (sent-one-by-one s) (shape-run L (member (headBytes (f .number) (f .first ∷ f .second ∷ [])) ∷ map sent (standingRule (L .board .counts) f .rows)) shape) .draft _ refl
+  pub gap-good : LedgerShape L → Sendable L f → (f .number < 64) × GoodRule (L .board .counts) (ruleOfGap (L .board .counts) f)
+  gap-good shape s = subst LedgerShape (sent-one-by-one s) (shape-run L (member (headBytes (f .number) (f .first ∷ f .second ∷ [])) ∷ map sent (ruleOfGap (L .board .counts) f .rows)) shape) .draft _ refl
