@@ -1,6 +1,8 @@
 //! The benchmark: lifts and puts through the static library, against a board that filters afresh (afresh.rs), compiled once as it is and once for the machine
 //! that it runs on. Only kinds 4 and 5 are timed; heads and rows are sent outside the clock. After each command all sides have to show the same open slots. A
 //! command of the library leaves the summary table current, too, in the time that is measured; the others have no such table.
+//!
+//! Gap rules are measured apart from these: each is one command of the library, against the head and the rows of the same draft.
 #[path = "../hosts/berth.rs"]
 mod berth;
 
@@ -346,10 +348,72 @@ fn line(name: &str, command: &str, changes: String, [ours, afresh, native]: [f64
     );
 }
 
-/// The boards of this name, or all where it is empty. A name that none has ends the program with the list of them.
+/// A gap rule on two calls of 32 slots, with the pairs that fit it.
+struct GapRule {
+    form: u8,
+    gap: u8,
+    pairs: Vec<Vec<usize>>,
+}
+
+/// Two that nearly fill a draft, and one that is refused since every pair fits.
+fn gap_rules() -> [GapRule; 3] {
+    [
+        GapRule { form: 1, gap: 22, pairs: pairs(32, |a, b| a + 22 <= b) },
+        GapRule { form: 2, gap: 25, pairs: pairs(32, |a, b| a.abs_diff(b) >= 25) },
+        GapRule { form: 2, gap: 0, pairs: pairs(32, |_, _| true) },
+    ]
+}
+
+fn two_calls() -> Ours {
+    let mut board = berth::Board::new();
+    board.start(&[32, 32]).unwrap();
+    Ours { board, changes: Changes::default() }
+}
+
+/// An accepted gap rule leaves the same value as its head and rows, each time. A refused one has no draft to compare with.
+fn measure_gap_rule(rule: &GapRule, clock: u64) {
+    let (mut whole, mut by_row) = (two_calls(), two_calls());
+    let bytes = [6, rule.form, 0, 0, 1, rule.gap];
+    let rows = Rule::new(0, &[0, 1], rule.pairs.clone());
+    let due = if rule.pairs.len() > 64 { 25 } else { 0 };
+    let mut times = [vec![], vec![]];
+    for _ in 0..4001 {
+        let mut answer = Ok(berth::Report::default());
+        timed(&mut times[0], || answer = whole.board.command(&bytes));
+        assert!(answer.map_or_else(berth::Refusal::number, |_| 0) == due, "{bytes:?}: another answer");
+        if due == 0 {
+            timed(&mut times[1], || by_row.prepare(&rows));
+            assert!(whole.board.memory().value == by_row.board.memory().value, "{bytes:?}: another draft");
+        }
+    }
+    let name = format!("form {}, gap {}", rule.form, rule.gap);
+    let start = format!("| {name:14} | {:5}", rule.pairs.len());
+    let whole = median(&times[0]) - clock;
+    if due != 0 {
+        println!("{start} | refused {due} | {whole:9} | {:13} | {:5} |", "", "");
+        return;
+    }
+    let by_row = median(&times[1]) - clock;
+    println!("{start} | {:10} | {whole:9} | {by_row:13} | {:5.2} |", "accepted", by_row as f64 / whole as f64);
+}
+
+fn measure_gap_rules(clock: u64) {
+    println!("Nanoseconds per draft of a gap rule on two calls of 32 slots, medians; reading the clock, {clock} ns, is taken off.\nA ratio above 1: the gap rule is faster.\n");
+    println!(
+        "| {:14} | {:5} | {:10} | {:>9} | {:>13} | {:5} |",
+        "rule", "pairs", "answer", "gap rule", "head and rows", "ratio"
+    );
+    println!("|----------------|-------|------------|-----------|---------------|-------|");
+    gap_rules().iter().for_each(|rule| measure_gap_rule(rule, clock));
+}
+
+/// The name of the gap rules among those of the boards.
+const GAP_RULES: &str = "gap rules";
+
+/// The boards of this name, or all where it is empty. A name that nothing has ends the program with the list of them.
 fn chosen(name: &str) -> Vec<Case> {
     let mut cases = vec![busiest(), dense("dense", 24, 60), dense("overfull", 64, 20), many_strikes(), long_chain(), chain(), everyday(), busy_day()];
-    let names: Vec<&str> = cases.iter().map(|case| case.name).collect();
+    let names: Vec<&str> = cases.iter().map(|case| case.name).chain([GAP_RULES]).collect();
     if !name.is_empty() && !names.contains(&name) {
         eprintln!("there is no board '{}'; there are: {}", name, names.join(", "));
         std::process::exit(2);
@@ -358,9 +422,7 @@ fn chosen(name: &str) -> Vec<Case> {
     cases
 }
 
-fn main() {
-    let cases = chosen(&std::env::args().nth(1).unwrap_or_default());
-    let clock = clock_cost();
+fn measure_boards(cases: &[Case], clock: u64) {
     println!("Nanoseconds per command, the mean over the measured rules of each one's median; reading the clock, {} ns, is taken off.\nA ratio above 1: the library is faster.\n", clock);
     println!(
         "| {:12} | {:4} | {:31} | {:>9} | {:>9} | {:5} | {:>9} | {:5} |",
@@ -370,4 +432,19 @@ fn main() {
         "|--------------|------|---------------------------------|-----------|-----------|-------|-----------|-------|"
     );
     cases.iter().for_each(|case| measure(case, clock));
+}
+
+fn main() {
+    let name = std::env::args().nth(1).unwrap_or_default();
+    let cases = chosen(&name);
+    let clock = clock_cost();
+    if !cases.is_empty() {
+        measure_boards(&cases, clock);
+    }
+    if name.is_empty() {
+        println!();
+    }
+    if name.is_empty() || name == GAP_RULES {
+        measure_gap_rules(clock);
+    }
 }

@@ -29,7 +29,14 @@
  *   3 row    four slots                                 one more row of the draft
  *   4 put    nothing                                    brings the draft into force, and leaves no draft
  *   5 lift   number                                     the rule leaves force, and the draft stays
+ *   6 gap    form, number, first and second call, gap   a draft of a gap rule with its rows, in place of any other
  * Calls and slots past the arity are 255.
+ *
+ * A gap rule is on two calls. Its rows are all pairs of slots, a of the first call and b of the second, that fit its form, in rising order of a, then of b:
+ *   1 before  a + gap is at most b
+ *   2 apart   a and b are the gap or more apart, whichever is lower
+ *   3 same    a is b, and the gap is 0
+ * There may be none. Its draft is one like any other: more rows may follow.
  */
 #ifndef BERTH_H
 #define BERTH_H
@@ -55,19 +62,22 @@ extern "C" {
 
 /*
  * The stack that a call needs, with the copies of the value that the questions are handed. It is measured and not proved: on x86-64, over every function and the
- * commands of a full board, hosts/stack.c found 7,928 bytes where it was compiled with -O2 or -O3, and 8,040, the most, without optimisation.
+ * commands of a full board, hosts/stack.c found 5,784 bytes where it was compiled without optimisation, 5,880 with -O2, and 6,248, the most, with -O3.
  */
 #define BERTH_STACK 12288
 
 /* The version that this header is of. It rises with any change of a struct, of a function or of what one means. */
-#define BERTH_VERSION 4
+#define BERTH_VERSION 5
 
 /* The version of the library, and the bytes of its value. They are plain numbers, so that they can be asked whatever else differs. */
 uint32_t berth_version(void);
 size_t berth_value_size(void);
 
 /* The kinds of commands. */
-enum berth_kind { BERTH_BOARD = 1, BERTH_HEAD = 2, BERTH_ROW = 3, BERTH_PUT = 4, BERTH_LIFT = 5 };
+enum berth_kind { BERTH_BOARD = 1, BERTH_HEAD = 2, BERTH_ROW = 3, BERTH_PUT = 4, BERTH_LIFT = 5, BERTH_GAP = 6 };
+
+/* The forms of gap rules. */
+enum berth_form { BERTH_BEFORE = 1, BERTH_APART = 2, BERTH_SAME = 3 };
 
 /*
  * A reply's number: 0, or why it was refused; berth_refusal_text has the conditions. The first that holds decides: commands and questions check in the order
@@ -95,7 +105,10 @@ enum berth_refusal {
     BERTH_NO_SUCH_SLOT = 19,
     BERTH_NO_SUCH_ROW = 20,
     BERTH_NO_SUCH_COLUMN = 21,
-    BERTH_TABLE_LENGTH = 22
+    BERTH_TABLE_LENGTH = 22,
+    BERTH_BAD_FORM = 23,
+    BERTH_BAD_GAP = 24,
+    BERTH_TOO_MANY_PAIRS = 25
 };
 
 /* The condition that a refusal's number stands for. */
@@ -109,8 +122,8 @@ static inline const char *berth_refusal_text(uint8_t number) {
     case BERTH_NO_BOARD: return "there is no board";
     case BERTH_NUMBER_OVER_63: return "the rule's number is over 63";
     case BERTH_BAD_ARITY: return "the arity is not 1 to 4";
-    case BERTH_CALL_OFF_BOARD: return "a call of the head is not on the board";
-    case BERTH_CALL_TWICE: return "a call stands twice in the head";
+    case BERTH_CALL_OFF_BOARD: return "a call of the rule is not on the board";
+    case BERTH_CALL_TWICE: return "a call stands twice in the rule";
     case BERTH_SPARE_FIELD: return "a field past the arity is not 255";
     case BERTH_NO_DRAFT: return "there is no draft";
     case BERTH_DRAFT_FULL: return "the draft has 64 rows";
@@ -123,6 +136,9 @@ static inline const char *berth_refusal_text(uint8_t number) {
     case BERTH_NO_SUCH_ROW: return "the rule has no such row";
     case BERTH_NO_SUCH_COLUMN: return "the rule has no such column";
     case BERTH_TABLE_LENGTH: return "the summary table is not 32 records";
+    case BERTH_BAD_FORM: return "the form is not 1 to 3";
+    case BERTH_BAD_GAP: return "the gap is over 31, or not 0 in form 3";
+    case BERTH_TOO_MANY_PAIRS: return "more than 64 pairs of slots fit";
     default: return "no refusal has this number";
     }
 }
@@ -178,13 +194,13 @@ struct berth_value berth_fresh(void);
  * A command. The value, the buffers and the table are written in place; where it is refused, all of them stay as they were. None of them may overlap another or
  * the command's bytes.
  * Checked, by kind: 1, 22, 3, 4, then
- *   board 5; head 6, 7, 8, 9, 10, 11; row 6, 12, 13, 14, 11, 15; put 6, 12, 16; lift 6, 7, 17.
+ *   board 5; head 6, 7, 8, 9, 10, 11; row 6, 12, 13, 14, 11, 15; put 6, 12, 16; lift 6, 7, 17; gap 6, 7, 23, 9, 10, 24, 25.
  */
 struct berth_command_reply {
     size_t struck;   /* S: slots open before and struck after */
     size_t reopened; /* R: slots struck before and open after */
     size_t touched;  /* T: of a put S; of a lift at least R, and at most the slots struck before */
-    uint8_t number;  /* 0, or the refusal; S, R and T are 0 then, and for kinds 1 to 3 */
+    uint8_t number;  /* 0, or the refusal; S, R and T are 0 then, and for all kinds but put and lift */
 };
 
 struct berth_command_reply berth_command(struct berth_value *value, const uint8_t *bytes, size_t bytes_length, uint8_t *rows, size_t rows_length,
@@ -353,11 +369,17 @@ static inline struct berth_command_bytes berth_make_lift(uint8_t number) {
     return berth_make_filled(berth_make_blank(BERTH_LIFT, 2, 0), 1, &number, 1);
 }
 
+/* The draft of a gap rule: its form (enum berth_form), its number, its two calls, and the gap between their slots. */
+static inline struct berth_command_bytes berth_make_gap(uint8_t form, uint8_t number, uint8_t first, uint8_t second, uint8_t gap) {
+    const uint8_t fields[5] = {form, number, first, second, gap};
+    return berth_make_filled(berth_make_blank(BERTH_GAP, 6, 0), 1, fields, 5);
+}
+
 static inline struct berth_command_reply berth_board_obey(struct berth_board *board, struct berth_command_bytes made) {
     return berth_board_command(board, made.bytes, made.length);
 }
 
-/* The five kinds on a board, each made as above. */
+/* The kinds on a board, each made as above. */
 static inline struct berth_command_reply berth_board_start(struct berth_board *board, const uint8_t *counts, size_t calls) {
     return berth_board_obey(board, berth_make_board(counts, calls));
 }
@@ -376,6 +398,10 @@ static inline struct berth_command_reply berth_board_put(struct berth_board *boa
 
 static inline struct berth_command_reply berth_board_lift(struct berth_board *board, uint8_t number) {
     return berth_board_obey(board, berth_make_lift(number));
+}
+
+static inline struct berth_command_reply berth_board_gap(struct berth_board *board, uint8_t form, uint8_t number, uint8_t first, uint8_t second, uint8_t gap) {
+    return berth_board_obey(board, berth_make_gap(form, number, first, second, gap));
 }
 
 /* The record of a call, read from the board's table; zeros for a call that is not on the board. */

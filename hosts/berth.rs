@@ -19,7 +19,7 @@ pub const RECORDS: usize = 32;
 pub const FILE: usize = 32768;
 
 /// The version that this file is of; the library has its own.
-pub const VERSION: u32 = 4;
+pub const VERSION: u32 = 5;
 
 /// The calls and the heads of the rules in force.
 #[repr(C)]
@@ -123,8 +123,8 @@ refusals! {
     6 NoBoard "there is no board"
     7 NumberOver63 "the rule's number is over 63"
     8 BadArity "the arity is not 1 to 4"
-    9 CallOffBoard "a call of the head is not on the board"
-    10 CallTwice "a call stands twice in the head"
+    9 CallOffBoard "a call of the rule is not on the board"
+    10 CallTwice "a call stands twice in the rule"
     11 SpareField "a field past the arity is not 255"
     12 NoDraft "there is no draft"
     13 DraftFull "the draft has 64 rows"
@@ -137,6 +137,9 @@ refusals! {
     20 NoSuchRow "the rule has no such row"
     21 NoSuchColumn "the rule has no such column"
     22 TableLength "the summary table is not 32 records"
+    23 BadForm "the form is not 1 to 3"
+    24 BadGap "the gap is over 31, or not 0 in form 3"
+    25 TooManyPairs "more than 64 pairs of slots fit"
 }
 
 impl fmt::Display for Refusal {
@@ -146,6 +149,17 @@ impl fmt::Display for Refusal {
 }
 
 impl std::error::Error for Refusal {}
+
+/// The form of a gap rule: which slots, a of its first call and b of its second, go together.
+#[derive(Clone, Copy, Debug, PartialEq, Eq)]
+pub enum Form {
+    /// a and the gap together are at most b
+    Before = 1,
+    /// a and b are the gap or more apart, whichever is lower
+    Apart = 2,
+    /// a is b, and the gap is 0
+    Same = 3,
+}
 
 /// What an accepted command changed.
 #[derive(Clone, Copy, Debug, Default, PartialEq, Eq)]
@@ -489,6 +503,11 @@ impl Board {
     /// Kind 5: the rule leaves force.
     pub fn lift(&mut self, number: u8) -> Answer<Report> {
         self.command(&[5, number])
+    }
+
+    /// Kind 6: starts a draft, in place of any other, with all pairs of slots that fit the form as its rows.
+    pub fn gap(&mut self, form: Form, number: u8, first: u8, second: u8, gap: u8) -> Answer<Report> {
+        self.command(&[6, form as u8, number, first, second, gap])
     }
 
     /// The figures of a call; zeros where it is not on the board.

@@ -70,7 +70,14 @@ static void rule(uint8_t number, const uint8_t *calls, size_t arity, uint8_t slo
     command(berth_make_put());
 }
 
-/* Rules of four neighbours, twice over, then one that leaves a single slot of each call, put and lifted. */
+/* A gap rule on calls 0 and 31, put and lifted; where it is refused, so are these two. */
+static void gap_rule(uint8_t form, uint8_t gap) {
+    command(berth_make_gap(form, 63, 0, 31, gap));
+    command(berth_make_put());
+    command(berth_make_lift(63));
+}
+
+/* Rules of four neighbours, twice over; beside them gap rules one by one, and then a rule that leaves a single slot of each call, put and lifted. */
 static void *session(void *nothing) {
     uint8_t counts[33];
     memset(counts, 32, sizeof counts);
@@ -81,6 +88,10 @@ static void *session(void *nothing) {
         for (uint8_t k = 0; k < 4; k++)
             calls[k] = (uint8_t)((number + k) % 32);
         rule(number, calls, 4, 32);
+    }
+    for (uint8_t form = 0; form <= BERTH_SAME; form++) {
+        gap_rule(form, 0);
+        gap_rule(form, 25);
     }
     rule(63, (const uint8_t[]){0}, 1, 1);
     questions(0);

@@ -96,12 +96,14 @@ static void same_bytes(const char *what, struct berth_command_bytes made, const 
 static void build(void) {
     static const uint8_t fields[34] = {3, 1, 2, 0}, board[33] = {1, 3, 1, 2}, whole[33] = {1, 3, 1, 2, 0};
     static const uint8_t head[7] = {2, 9, 2, 3, 1, 255, 255}, row[5] = {3, 3, 1, 2, 255}, put[1] = {4}, lift[2] = {5, 63};
+    static const uint8_t gap[6] = {6, 2, 9, 31, 0, 5};
     same_bytes("board's bytes", berth_make_board(fields, 3), board, 33);
     same_bytes("bytes of a board of 32 calls", berth_make_board(fields, 32), whole, 33);
     same_bytes("head's bytes", berth_make_head(9, fields, 2), head, 7);
     same_bytes("row's bytes", berth_make_row(fields, 3), row, 5);
     same_bytes("put's bytes", berth_make_put(), put, 1);
     same_bytes("lift's bytes", berth_make_lift(63), lift, 2);
+    same_bytes("gap's bytes", berth_make_gap(BERTH_APART, 9, 31, 0, 5), gap, 6);
     same("a board of 33 calls", (long)berth_make_board(fields, 33).length, 34);
     same("a head of five calls", (long)berth_make_head(9, fields, 5).length, 8);
     same("a row of five slots", (long)berth_make_row(fields, 5).length, 6);
@@ -145,6 +147,89 @@ static void refuse(struct berth_board *board) {
     same("too many calls", berth_board_head(board, 9, counts, 257).number, BERTH_BODY_LENGTH);
     same("lift of what is not there", berth_board_lift(board, 9).number, BERTH_NOT_IN_FORCE);
     same("put without a draft", berth_board_put(board).number, BERTH_NO_DRAFT);
+}
+
+static void same_row(const char *what, const struct berth_board *board, uint8_t rule, uint8_t w, uint8_t first, uint8_t second) {
+    const uint8_t wanted[4] = {first, second, 255, 255}, *row = berth_board_row_bytes(board, rule, w);
+    same(what, row != NULL && memcmp(row, wanted, 4) == 0, 1);
+}
+
+/* Puts rule 7 by its gap, on call 0 of four slots and call 1 of three, and lifts it: its rows are these pairs, and the open slots these. */
+static void put_gap(struct berth_board *board, uint8_t form, uint8_t gap, const uint8_t *pairs, uint8_t count, uint32_t first, uint32_t second) {
+    static struct berth_board before;
+    before = *board;
+    struct berth_command_reply reply = berth_board_gap(board, form, 7, 0, 1, gap);
+    same("gap", reply.number, 0);
+    same("its S, R and T", (long)(reply.struck + reply.reopened + reply.touched), 0);
+    before.value.draft = board->value.draft;
+    same("all but the draft", memcmp(board, &before, sizeof before), 0);
+    reply = berth_board_put(board);
+    same("put of a gap rule", reply.number, 0);
+    for (uint8_t w = 0; w < count; w++) {
+        same_row("row of a gap rule", board, 7, w, pairs[2 * w], pairs[2 * w + 1]);
+        same("living row of a gap rule", berth_board_row_state(board, 7, w).killer, 255);
+    }
+    same("row past a gap rule's last", berth_board_row_state(board, 7, count).number, BERTH_NO_SUCH_ROW);
+    same("first call under a gap rule", berth_board_open_slots(board, 0).mask, first);
+    same("second call under a gap rule", berth_board_open_slots(board, 1).mask, second);
+    same("S", (long)reply.struck, 7 - (long)(berth_board_open_slots(board, 0).ones + berth_board_open_slots(board, 1).ones));
+    same("lift of a gap rule", (long)berth_board_lift(board, 7).reopened, (long)reply.struck);
+}
+
+/* Each form, and forms that no pair fits: they leave nothing open. A gap rule's draft takes the place of another, and takes more rows, but none that it has. */
+static void draft_gaps(struct berth_board *board) {
+    same("board", berth_board_start(board, (const uint8_t[]){4, 3}, 2).number, 0);
+    put_gap(board, BERTH_BEFORE, 1, (const uint8_t[]){0, 1, 0, 2, 1, 2}, 3, 3, 6);
+    put_gap(board, BERTH_APART, 2, (const uint8_t[]){0, 2, 2, 0, 3, 0, 3, 1}, 4, 13, 7);
+    put_gap(board, BERTH_SAME, 0, (const uint8_t[]){0, 0, 1, 1, 2, 2}, 3, 7, 7);
+    put_gap(board, BERTH_BEFORE, 3, NULL, 0, 0, 0);
+    put_gap(board, BERTH_APART, 31, NULL, 0, 0, 0);
+    same("head", berth_board_head(board, 9, (const uint8_t[]){0}, 1).number, 0);
+    same("gap", berth_board_gap(board, BERTH_BEFORE, 7, 1, 0, 3).number, 0);
+    same("row of the gap", berth_board_row(board, (const uint8_t[]){0, 3}, 2).number, BERTH_ROW_TWICE);
+    same("another row", berth_board_row(board, (const uint8_t[]){2, 0}, 2).number, 0);
+    same("put", (long)berth_board_put(board).struck, 3);
+    same("first row", berth_board_support(board, 7, 1, 3).row, 0);
+    same("row behind it", berth_board_support(board, 7, 1, 0).row, 1);
+    same("draft that was replaced", berth_board_lift(board, 9).number, BERTH_NOT_IN_FORCE);
+}
+
+/* Each refusal of kind 6 comes before the next, and all stays as it was: the draft, too, which can be put then. 64 pairs are taken, and 72 and 65 are not. */
+static void refuse_gaps(struct berth_board *board) {
+    static const uint8_t wrong[][6] = { /* the refusal, and the fields */
+        {BERTH_NUMBER_OVER_63, 0, 64, 5, 5, 32}, {BERTH_NUMBER_OVER_63, 3, 255, 0, 1, 0},
+        {BERTH_BAD_FORM, 0, 63, 5, 5, 32}, {BERTH_BAD_FORM, 4, 63, 0, 1, 0}, {BERTH_BAD_FORM, 255, 63, 0, 1, 0},
+        {BERTH_CALL_OFF_BOARD, 1, 63, 5, 5, 32}, {BERTH_CALL_OFF_BOARD, 1, 63, 5, 0, 32}, {BERTH_CALL_OFF_BOARD, 3, 63, 0, 255, 0},
+        {BERTH_CALL_TWICE, 2, 63, 2, 2, 32}, {BERTH_CALL_TWICE, 3, 63, 0, 0, 0},
+        {BERTH_BAD_GAP, 1, 63, 0, 2, 32}, {BERTH_BAD_GAP, 2, 63, 0, 2, 255}, {BERTH_BAD_GAP, 3, 63, 0, 2, 1},
+        {BERTH_TOO_MANY_PAIRS, 2, 63, 0, 2, 0}, {BERTH_TOO_MANY_PAIRS, 1, 63, 3, 4, 0},
+    };
+    static struct berth_board before;
+    struct berth_command_bytes made = berth_make_gap(BERTH_BEFORE, 7, 0, 1, 0);
+    same("clear", berth_board_clear(board), 1);
+    same("gap without a board", berth_board_gap(board, 0, 64, 5, 5, 32).number, BERTH_NO_BOARD);
+    same("board", berth_board_start(board, (const uint8_t[]){8, 8, 9, 5, 15}, 5).number, 0);
+    same("head", berth_board_head(board, 9, (const uint8_t[]){2}, 1).number, 0);
+    same("row", berth_board_row(board, (const uint8_t[]){5}, 1).number, 0);
+    before = *board;
+    for (size_t i = 0; i < sizeof wrong / sizeof *wrong; i++) {
+        const uint8_t *fields = wrong[i];
+        struct berth_command_reply reply = berth_board_gap(board, fields[1], fields[2], fields[3], fields[4], fields[5]);
+        same("refused gap", reply.number, fields[0]);
+        same("its S, R and T", (long)(reply.struck + reply.reopened + reply.touched), 0);
+        same("board after a refused gap", memcmp(board, &before, sizeof before), 0);
+    }
+    same("gap cut short", berth_board_command(board, made.bytes, 5).number, BERTH_BODY_LENGTH);
+    same("gap that is too long", berth_board_command(board, made.bytes, 7).number, BERTH_BODY_LENGTH);
+    same("table of a gap", berth_command(&board->value, made.bytes, 6, BERTH_BUFFERS(board), board->table, 31).number, BERTH_TABLE_LENGTH);
+    same("board after them", memcmp(board, &before, sizeof before), 0);
+    same("put of the old draft", (long)berth_board_put(board).struck, 8);
+    same("its open slot", berth_board_open_slots(board, 2).mask, 1 << 5);
+    same("64 pairs", berth_board_gap(board, BERTH_APART, 63, 0, 1, 0).number, 0);
+    same("a row more", berth_board_row(board, (const uint8_t[]){0, 0}, 2).number, BERTH_DRAFT_FULL);
+    same("put of 64 pairs", berth_board_put(board).number, 0);
+    same_row("last of 64 pairs", board, 63, 63, 7, 7);
+    same("all of them fit", berth_board_open_slots(board, 0).mask, 255);
 }
 
 /* A table between bytes that nobody may write, with room for a record more. */
@@ -212,47 +297,66 @@ static void alter_table(struct berth_board *board) {
     same_record("record of call 1 under rule 9", berth_board_summary(board, 1), 0, 2, 2);
     same("lift", berth_board_lift(board, 9).number, 0);
     same_table("board's table after a lift", board->table);
+    memset(board->table, 0xa5, sizeof board->table);
+    same("gap", berth_board_gap(board, BERTH_SAME, 9, 0, 1, 0).number, 0);
+    same_table("board's table after a gap", board->table);
 }
 
-/* Whatever value and buffers hold, a command returns and writes nothing beside the table; refused, it writes nothing at all. */
+/* A command on a board of any contents writes nothing beside the table that it is lent; refused, it writes nothing at all. */
+static void obey_altered(struct berth_board *board, struct berth_command_bytes made) {
+    static struct berth_board before;
+    struct guarded lent, was;
+    memset(&was, 0xa5, sizeof was);
+    lent = was;
+    before = *board;
+    uint8_t number = berth_command(&board->value, made.bytes, made.length, BERTH_BUFFERS(board), lent.table, BERTH_RECORDS).number;
+    same_guard("beside the table of an altered board", &lent);
+    same("an altered board's own table", memcmp(board->table, before.table, sizeof board->table), 0);
+    if (number != 0) {
+        same("an altered board that refuses", memcmp(board, &before, sizeof before), 0);
+        same("its table", memcmp(&lent, &was, sizeof was), 0);
+    }
+    if (made.bytes[0] == BERTH_BOARD) {
+        same("a new board on altered memory", number, 0);
+        same_record("its record of call 1", lent.table[1], 2, 0, 0);
+        same_record("its record of call 2", lent.table[2], 0, 0, 0);
+    }
+}
+
+/* Each command on altered memory, and one after another. */
 static void alter_board(void) {
     static const uint8_t bytes[] = {0, 1, 3, 4, 31, 32, 63, 64, 200, 254, 255};
-    static struct berth_board board, before;
+    static struct fenced alone, chain;
     struct berth_command_bytes made[] = {
-        berth_make_board((const uint8_t[]){2, 2}, 2), berth_make_head(0, (const uint8_t[]){0}, 1), berth_make_row((const uint8_t[]){1}, 1), berth_make_put(),
-        berth_make_lift(0),
+        berth_make_head(0, (const uint8_t[]){0}, 1), berth_make_row((const uint8_t[]){1}, 1), berth_make_put(), berth_make_lift(0),
+        berth_make_gap(BERTH_BEFORE, 63, 0, 31, 22), berth_make_gap(BERTH_APART, 0, 31, 30, 0), berth_make_gap(BERTH_SAME, 1, 2, 3, 200),
+        berth_make_gap(255, 255, 255, 255, 255),
+        berth_make_gap(BERTH_SAME, 0, 1, 0, 0), berth_make_row((const uint8_t[]){3, 1}, 2), berth_make_put(), berth_make_lift(0),
+        berth_make_board((const uint8_t[]){2, 2}, 2),
     };
-    struct guarded lent, was;
-    for (size_t i = 0; i < sizeof bytes; i++)
+    raise_fence(&alone);
+    raise_fence(&chain);
+    for (size_t i = 0; i < sizeof bytes; i++) {
+        memset(&chain.board, bytes[i], sizeof chain.board);
         for (size_t k = 0; k < sizeof made / sizeof *made; k++) {
-            memset(&board, bytes[i], sizeof board);
-            memset(&was, 0xa5, sizeof was);
-            lent = was;
-            before = board;
-            uint8_t number = berth_command(&board.value, made[k].bytes, made[k].length, BERTH_BUFFERS(&board), lent.table, BERTH_RECORDS).number;
-            same_guard("beside the table of an altered board", &lent);
-            same("an altered board's own table", memcmp(board.table, before.table, sizeof board.table), 0);
-            if (number != 0) {
-                same("an altered board that refuses", memcmp(&board, &before, sizeof board), 0);
-                same("its table", memcmp(&lent, &was, sizeof was), 0);
-            }
-            if (k == 0) {
-                same("a new board on altered memory", number, 0);
-                same_record("its record of call 1", lent.table[1], 2, 0, 0);
-                same_record("its record of call 2", lent.table[2], 0, 0, 0);
-            }
+            memset(&alone.board, bytes[i], sizeof alone.board);
+            obey_altered(&alone.board, made[k]);
+            obey_altered(&chain.board, made[k]);
         }
+    }
+    same_fence(&alone);
+    same_fence(&chain);
 }
 
 /* A file leaves what its commands leave one by one, up to one that cannot be read; one that is too long changes nothing. */
 static void replay(struct berth_board *board) {
-    static const uint8_t lift_without_board[] = {5, 9, 4, 6};
+    static const uint8_t lift_without_board[] = {5, 9, 4, 0};
     static uint8_t file[BERTH_FILE + 1];
     static struct fenced fenced;
     struct berth_board *other = &fenced.board;
     struct berth_command_bytes made[] = {
         berth_make_lift(9), berth_make_board((const uint8_t[]){2, 2}, 2), berth_make_head(0, (const uint8_t[]){0}, 1), berth_make_row((const uint8_t[]){1}, 1),
-        berth_make_put(),
+        berth_make_put(), berth_make_gap(BERTH_SAME, 1, 0, 1, 0),
     };
     size_t length = 0;
     raise_fence(&fenced);
@@ -263,7 +367,7 @@ static void replay(struct berth_board *board) {
         berth_board_obey(other, made[i]);
     }
     struct berth_replay_reply reply = berth_board_replay(board, file, length);
-    same("commands run", (long)reply.ran, 5);
+    same("commands run", (long)reply.ran, 6);
     same("end of the file", reply.number, 0);
     same("board after the file", memcmp(board, other, sizeof *other), 0);
     same_record("record after the file", board->table[0], 1, 1, 1);
@@ -315,6 +419,8 @@ int main(int words, char **word) {
     alter_table(board);
     alter_board();
     replay(board);
+    draft_gaps(board);
+    refuse_gaps(board);
     same_fence(&fenced);
     printf("header: %s\n", failed ? "FAILED" : "every function answers from C as it should");
     return failed;

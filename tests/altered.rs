@@ -7,7 +7,7 @@ use crate::host::{number_of, Fenced, Host};
 use crate::ledger::{Ledger, BOARD, LAST_KIND, LENGTHS, LIFT, PUT};
 use crate::random::Random;
 use crate::summary::{self, table_of};
-use crate::writer::{any_command, board, SIZES};
+use crate::writer::{any_command, any_gap_rule, board, SIZES};
 
 const HOSTS: u64 = 6000;
 const COMMANDS: usize = 6;
@@ -88,8 +88,9 @@ pub fn some_host(random: &mut Random, left: &[Host]) -> Host {
 fn some_command(random: &mut Random) -> Vec<u8> {
     match random.below(60) {
         0 => board(random, &SIZES[0]),
-        1..=16 => vec![PUT],
-        17..=32 => vec![LIFT, random.below(65) as u8],
+        1..=13 => vec![PUT],
+        14..=26 => vec![LIFT, random.below(65) as u8],
+        27..=32 => any_gap_rule(random),
         33..=50 => any_command(random),
         _ => {
             let length = random.below(40);

@@ -1,6 +1,6 @@
 //! The ledger (SCOPE 6.5), written for the tests and apart from the board: the calls' slot counts, the draft and the rules, when a command or a question is
 //! refused, and what a command does. A new kind of command is added to the constants, to `body_length`, `kind_refusal`, `obey` and `writes_draft_only` here,
-//! to `report_of` in filter.rs and `touched_limits` in session.rs, and to what writer.rs writes.
+//! to `report_of` in filter.rs and `touched_limits` in session.rs, to what writer.rs writes, and to `REFUSALS_OF_KIND` in tally.rs.
 
 use std::collections::BTreeMap;
 
@@ -9,10 +9,11 @@ pub const HEAD: u8 = 2;
 pub const ROW: u8 = 3;
 pub const PUT: u8 = 4;
 pub const LIFT: u8 = 5;
-pub const LAST_KIND: u8 = LIFT;
+pub const GAP: u8 = 6;
+pub const LAST_KIND: u8 = GAP;
 
 /// Refusals have the numbers up to this one.
-pub const LAST_REFUSAL: usize = 22;
+pub const LAST_REFUSAL: usize = 25;
 
 /// The lengths of what is lent with a command.
 #[derive(Clone, Copy)]
@@ -45,13 +46,14 @@ pub fn body_length(kind: u8) -> Option<usize> {
         ROW => Some(4),
         PUT => Some(0),
         LIFT => Some(1),
+        GAP => Some(5),
         _ => None,
     }
 }
 
 /// An accepted command of this kind leaves the buffers as they were.
 pub fn writes_draft_only(kind: u8) -> bool {
-    matches!(kind, HEAD | ROW)
+    matches!(kind, HEAD | ROW | GAP)
 }
 
 /// A row has a slot for each of the calls, and 255 in the columns past them.
@@ -91,6 +93,15 @@ fn bad_spare(fields: &[u8]) -> bool {
     fields.iter().any(|field| *field != 255)
 }
 
+/// Whether a gap rule of this form admits two slots. The second lies so far ahead of the first; a slot behind it is less than 0 ahead.
+fn fits(form: u8, gap: i32, ahead: i32) -> bool {
+    match form {
+        1 => ahead >= gap,
+        2 => ahead.abs() >= gap,
+        _ => ahead == 0,
+    }
+}
+
 /// The refusal of what stands first in these bytes, whatever follows it: 3, 4, or 0.
 pub fn read_refusal(bytes: &[u8]) -> u8 {
     let length = bytes.first().and_then(|kind| body_length(*kind));
@@ -120,6 +131,7 @@ impl Ledger {
             ROW => self.row_refusal(&body[..4]),
             PUT => self.put_refusal(),
             LIFT => self.rule_refusal(body[0]),
+            GAP => self.gap_refusal(body[0], body[1], &body[2..4], body[4]),
             _ => unreachable!(),
         }
     }
@@ -164,6 +176,26 @@ impl Ledger {
         first(&[(6, self.no_board()), (7, number > 63), (17, !self.rules.contains_key(&number))])
     }
 
+    fn gap_refusal(&self, form: u8, number: u8, calls: &[u8], gap: u8) -> u8 {
+        first(&[
+            (6, self.no_board()),
+            (7, number > 63),
+            (23, !(1..=3).contains(&form)),
+            (9, calls.iter().any(|call| self.count(*call) == 0)),
+            (10, calls[0] == calls[1]),
+            (24, gap > if form == 3 { 0 } else { 31 }),
+            (25, self.fitting_rows(form, calls, gap).len() > 64),
+        ])
+    }
+
+    /// The rows of a gap rule on two calls, however many they are.
+    pub fn fitting_rows(&self, form: u8, calls: &[u8], gap: u8) -> Vec<[u8; 4]> {
+        let slots = |call: u8| 0..self.count(call) as i32;
+        let pairs = slots(calls[0]).flat_map(|a| slots(calls[1]).map(move |b| (a, b)));
+        let fitting = pairs.filter(|(a, b)| fits(form, gap as i32, b - a));
+        fitting.map(|(a, b)| [a as u8, b as u8, 255, 255]).collect()
+    }
+
     pub fn call_refusal(&self, call: u8) -> u8 {
         first(&[(6, self.no_board()), (18, self.count(call) == 0)])
     }
@@ -201,6 +233,11 @@ impl Ledger {
             ROW => self.draft.as_mut().unwrap().1.rows.push(body.try_into().unwrap()),
             PUT => self.rules.extend(self.draft.take()),
             LIFT => drop(self.rules.remove(&body[0])),
+            GAP => {
+                let calls = body[2..4].to_vec();
+                let rows = self.fitting_rows(body[0], &calls, body[4]);
+                self.draft = Some((body[1], Rule { calls, rows }));
+            }
             _ => unreachable!(),
         }
     }

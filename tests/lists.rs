@@ -30,7 +30,7 @@ fn other_length(writer: &mut Writer, session: &mut Session, bytes: &[u8]) {
     let refusal = session.ledger.refusal(host.lengths(), bytes);
     let (answer, _) = host.command(bytes);
     assert_eq!(number_of(&answer), refusal, "the refusal of {bytes:?} with other lengths");
-    session.tally.command(refusal, &session.ledger);
+    session.tally.command(bytes, refusal, &session.ledger);
 }
 
 /// One list. Returns what it leaves.

@@ -10,6 +10,7 @@ mod altered;
 #[path = "../hosts/berth.rs"]
 mod berth;
 mod filter;
+mod gaps;
 mod host;
 mod ledger;
 mod lists;
@@ -41,6 +42,7 @@ fn main() {
         let left = lists::run(&mut tally);
         altered::run(&left);
         replay::run(&left);
+        gaps::run(&left);
     }
     if matches!(&word[..], "" | "sheets") {
         sheet::run(&mut tally);

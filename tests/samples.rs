@@ -1,7 +1,8 @@
-//! Samples whose values are written out: the texts in samples/, whose sheets stand beside them, and the sample boards (SCOPE 8).
+//! Samples whose values are written out: the texts in samples/, whose sheets stand beside them, the sample boards (SCOPE 8), and gap rules.
 
 use crate::berth::{Board, Summary};
 use crate::host::number_of;
+use crate::ledger::GAP;
 use crate::sheet::{check_total, program_writes, sheet_of};
 use crate::tally::Tally;
 use std::path::Path;
@@ -30,7 +31,7 @@ fn check_texts(tally: &mut Tally) {
         check_total(&bytes, &sheet, tally);
         seen.push(text.file_stem().unwrap().to_str().unwrap().to_owned());
     }
-    for name in ["ac3-example", "harbour", "session"] {
+    for name in ["ac3-example", "harbour", "pilot", "session"] {
         assert!(seen.iter().any(|other| other == name), "there is no sample {name}");
     }
     tally.files += seen.len();
@@ -113,12 +114,112 @@ fn check_numbers() {
     assert_eq!([0, 1].map(|call| open(&board, call)), [vec![0, 1], vec![1]]);
 }
 
+/// The number that a gap rule is refused under; 0 where it is accepted.
+fn gap_refusal(board: &mut Board, form: u8, number: u8, calls: [u8; 2], gap: u8) -> u8 {
+    number_of(&board.command(&[GAP, form, number, calls[0], calls[1], gap]))
+}
+
+/// Puts a gap rule, and returns the slots in its rows.
+fn put_gap_rule(board: &mut Board, form: u8, number: u8, calls: [u8; 2], gap: u8) -> Vec<[u8; 2]> {
+    assert_eq!(gap_refusal(board, form, number, calls, gap), 0, "form {form} with gap {gap} on {calls:?}");
+    board.put().unwrap();
+    let rows = (0..64).map(|row| board.row_bytes(number, row)).take_while(|bytes| !bytes.is_empty());
+    rows.map(|bytes| {
+        assert_eq!(bytes[2..], [255, 255], "the columns past the second");
+        [bytes[0], bytes[1]]
+    })
+    .collect()
+}
+
+/// The three forms, each with its rows in their order.
+fn check_gap_forms() {
+    let mut board = Board::new();
+    board.start(&[3, 4]).unwrap();
+    let rows = put_gap_rule(&mut board, 1, 0, [0, 1], 1);
+    assert_eq!(rows, [[0, 1], [0, 2], [0, 3], [1, 2], [1, 3], [2, 3]], "form 1");
+    assert_eq!([0, 1].map(|call| open(&board, call)), [vec![0, 1, 2], vec![1, 2, 3]], "form 1");
+    assert_eq!(board.lift(0).unwrap().reopened, 1, "form 1");
+    assert_eq!(put_gap_rule(&mut board, 1, 1, [1, 0], 1), [[0, 1], [0, 2], [1, 2]], "form 1, the calls exchanged");
+    assert_eq!(board.lift(1).unwrap().reopened, 3, "form 1, the calls exchanged");
+    assert_eq!(put_gap_rule(&mut board, 2, 2, [0, 1], 2), [[0, 2], [0, 3], [1, 3], [2, 0]], "form 2");
+    assert_eq!([0, 1].map(|call| open(&board, call)), [vec![0, 1, 2], vec![0, 2, 3]], "form 2");
+    assert_eq!(put_gap_rule(&mut board, 3, 3, [0, 1], 0), [[0, 0], [1, 1], [2, 2]], "form 3");
+    assert_eq!([0, 1].map(|call| open(&board, call)), [[0, 2], [0, 2]], "forms 2 and 3");
+    assert_eq!(figures(&board), [(2, 1, 2), (2, 2, 2)], "forms 2 and 3");
+}
+
+/// As many rows as there may be, one less and one more; none; and the largest gap.
+fn check_gap_limits() {
+    let mut board = Board::new();
+    board.start(&[8, 8, 5, 13, 2, 32, 10, 11, 32]).unwrap();
+    assert_eq!(gap_refusal(&mut board, 2, 63, [0, 1], 0), 0, "64 rows");
+    assert_eq!(number_of(&board.row(&[0, 0])), 13, "a row more than 64");
+    assert_eq!(gap_refusal(&mut board, 2, 63, [2, 3], 0), 25, "65 rows");
+    assert_eq!(gap_refusal(&mut board, 2, 63, [5, 8], 0), 25, "1,024 rows");
+    assert_eq!(gap_refusal(&mut board, 1, 63, [6, 7], 0), 25, "65 rows in form 1");
+    assert_eq!(gap_refusal(&mut board, 1, 63, [4, 5], 0), 0, "63 rows in form 1");
+    assert_eq!(put_gap_rule(&mut board, 2, 63, [4, 5], 0).len(), 64);
+    assert_eq!(put_gap_rule(&mut board, 1, 0, [5, 8], 31), [[0, 31]]);
+    assert_eq!(put_gap_rule(&mut board, 2, 1, [8, 5], 31), [[0, 31], [31, 0]]);
+    assert_eq!(gap_refusal(&mut board, 1, 2, [5, 8], 32), 24);
+    assert_eq!(put_gap_rule(&mut board, 1, 3, [2, 1], 8), [[0; 2]; 0], "no rows");
+    assert_eq!([2, 1, 0].map(|call| open(&board, call).len()), [0, 0, 8], "no rows");
+}
+
+/// Gap rules with several things wrong, and fewer from one to the next. The last two have too many rows.
+fn check_gap_refusals() {
+    let mut board = Board::new();
+    assert_eq!(number_of(&board.command(&[GAP + 1, 4, 64, 2, 2, 32])), 3);
+    assert_eq!(number_of(&board.command(&[GAP, 4, 64, 2, 2])), 4);
+    assert_eq!(number_of(&board.command(&[GAP, 4, 64, 2, 2, 32, 0])), 4);
+    assert_eq!(gap_refusal(&mut board, 4, 64, [2, 2], 32), 6);
+    board.start(&[32, 32]).unwrap();
+    assert_eq!(gap_refusal(&mut board, 4, 64, [2, 2], 32), 7);
+    assert_eq!(gap_refusal(&mut board, 4, 63, [2, 2], 32), 23);
+    assert_eq!(gap_refusal(&mut board, 0, 63, [2, 2], 32), 23);
+    assert_eq!(gap_refusal(&mut board, 3, 63, [2, 2], 32), 9);
+    assert_eq!(gap_refusal(&mut board, 3, 63, [0, 2], 1), 9);
+    assert_eq!(gap_refusal(&mut board, 3, 63, [32, 1], 1), 9);
+    assert_eq!(gap_refusal(&mut board, 3, 63, [1, 1], 1), 10);
+    assert_eq!(gap_refusal(&mut board, 3, 63, [0, 1], 1), 24);
+    assert_eq!(gap_refusal(&mut board, 2, 63, [0, 1], 32), 24);
+    assert_eq!(gap_refusal(&mut board, 2, 63, [1, 1], 0), 10);
+    assert_eq!(gap_refusal(&mut board, 2, 63, [0, 1], 0), 25);
+}
+
+/// A refused gap rule leaves the draft that there is, an accepted one takes its place, and its own can get more rows.
+fn check_gap_drafts() {
+    let mut board = Board::new();
+    board.start(&[9, 9]).unwrap();
+    board.head(7, &[0]).unwrap();
+    board.row(&[4]).unwrap();
+    assert_eq!(gap_refusal(&mut board, 0, 8, [0, 1], 0), 23);
+    assert_eq!(gap_refusal(&mut board, 1, 8, [0, 2], 0), 9);
+    assert_eq!(gap_refusal(&mut board, 1, 8, [1, 1], 0), 10);
+    assert_eq!(gap_refusal(&mut board, 3, 8, [0, 1], 1), 24);
+    assert_eq!(gap_refusal(&mut board, 2, 8, [0, 1], 0), 25);
+    assert_eq!(board.put().unwrap().struck, 8, "the draft that refused gap rules left");
+    assert_eq!((board.row_bytes(7, 0), board.row_bytes(8, 0)), (&[4, 255, 255, 255][..], &[][..]));
+    board.head(7, &[0]).unwrap();
+    assert_eq!(gap_refusal(&mut board, 3, 9, [0, 1], 0), 0);
+    assert_eq!(number_of(&board.row(&[8, 8])), 15);
+    assert_eq!(number_of(&board.row(&[4, 9])), 14);
+    assert_eq!(number_of(&board.row(&[4, 6])), 0);
+    assert_eq!(board.put().unwrap().struck, 7, "equal slots and a row more");
+    assert_eq!([0, 1].map(|call| open(&board, call)), [vec![4], vec![4, 6]]);
+    assert_eq!(board.row_bytes(9, 9), [4, 6, 255, 255]);
+}
+
 pub fn run(tally: &mut Tally) {
     crate::place::list("samples", 0);
     check_put_and_lift();
     check_closed_call();
     check_limits();
     check_numbers();
+    check_gap_forms();
+    check_gap_limits();
+    check_gap_refusals();
+    check_gap_drafts();
     check_texts(tally);
-    println!("samples: the sample boards and the texts of samples/");
+    println!("samples: the sample boards, gap rules and the texts of samples/");
 }

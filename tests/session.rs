@@ -14,6 +14,8 @@ pub struct Session<'a> {
     pub board: Board,
     pub ledger: Ledger,
     pub open: Slots,
+    /// whether a gap rule began the draft
+    gap_draft: bool,
     pub tally: &'a mut Tally,
 }
 
@@ -30,7 +32,7 @@ impl<'a> Session<'a> {
     pub fn new(tally: &'a mut Tally) -> Self {
         let (host, board, ledger) = (Host::fresh(), Board::new(), Ledger::default());
         assert_eq!(host.value, value_of(&ledger), "the value before the first command");
-        let session = Session { host, board, ledger, open: vec![], tally };
+        let session = Session { host, board, ledger, open: vec![], gap_draft: false, tally };
         session.check_board();
         session
     }
@@ -40,11 +42,27 @@ impl<'a> Session<'a> {
         let (answer, before) = self.host.command(bytes);
         assert_eq!(answer, self.board.command(bytes), "two answers to {bytes:?}");
         assert_eq!(number_of(&answer), refusal, "the refusal of {bytes:?}");
-        self.tally.command(refusal, &self.ledger);
+        self.tally.command(bytes, refusal, &self.ledger);
         if let Ok(report) = answer {
             self.accepted(bytes, report, &before);
         }
+        self.count_gaps(bytes, refusal);
         self.check_tables(bytes, answer.is_ok());
+    }
+
+    /// Counts gap rules, and rows and puts of the drafts that they begin.
+    fn count_gaps(&mut self, bytes: &[u8], refusal: u8) {
+        let gaps = &mut self.tally.gaps;
+        match bytes.first() {
+            Some(&ledger::GAP) => gaps.rule(bytes, refusal, &self.ledger),
+            Some(&ledger::ROW) if self.gap_draft => gaps.rows[refusal as usize] += 1,
+            Some(&ledger::PUT) if self.gap_draft => gaps.puts[refusal as usize] += 1,
+            _ => (),
+        }
+        if refusal == 0 {
+            let kept = self.gap_draft && matches!(bytes[0], ledger::ROW | ledger::LIFT);
+            self.gap_draft = kept || bytes[0] == ledger::GAP;
+        }
     }
 
     /// The wrapper's table is current after every command, and the host's, which may have been altered, after an accepted one. (host.rs asserts that a refused one

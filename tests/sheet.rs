@@ -3,7 +3,7 @@
 
 use crate::berth::Board;
 use crate::filter::{has, open_slots, report_of, Slots};
-use crate::ledger::{body_length, read_refusal, writes_draft_only, Ledger, LENGTHS, PUT};
+use crate::ledger::{body_length, read_refusal, writes_draft_only, Ledger, LAST_KIND, LENGTHS, PUT};
 use crate::random::Random;
 use crate::summary::open_sum;
 use crate::tally::Tally;
@@ -35,6 +35,7 @@ impl Sheet {
             self.text += &format!("r {kind} {refusal}\n");
             return length;
         }
+        tally.sheet_lines[kind as usize] += 1;
         self.ledger.obey(bytes);
         let before = self.open.clone();
         if !writes_draft_only(kind) {
@@ -154,7 +155,7 @@ pub fn some_file(seed: u64) -> Vec<u8> {
         }
         3 => file = file.iter().copied().cycle().take(LONGEST - 20 + random.below(40)).collect(),
         4 => file.clear(),
-        5 => file = (0..random.below(300)).map(|_| random.near(6)).collect(),
+        5 => file = (0..random.below(300)).map(|_| random.near(LAST_KIND as usize + 1)).collect(),
         _ => (),
     }
     file

@@ -1,7 +1,34 @@
 //! How often each thing was seen, so that the tests can say that they were not idle.
 
 use crate::berth::Report;
-use crate::ledger::{Ledger, LAST_REFUSAL};
+use crate::ledger::{Ledger, BOARD, GAP, HEAD, LAST_KIND, LAST_REFUSAL, LIFT, PUT, ROW};
+use std::collections::BTreeMap;
+
+/// How often each refusal was seen; at 0, none.
+pub type Refusals = [usize; LAST_REFUSAL + 1];
+
+/// The refusals of each kind (SCOPE 4.3). 3 is left out, since it is of no kind.
+const REFUSALS_OF_KIND: [(u8, &[usize]); LAST_KIND as usize] = [
+    (BOARD, &[1, 22, 4, 5]),
+    (HEAD, &[1, 22, 4, 6, 7, 8, 9, 10, 11]),
+    (ROW, &[1, 22, 4, 6, 12, 13, 14, 11, 15]),
+    (PUT, &[1, 22, 4, 6, 12, 16]),
+    (LIFT, &[1, 22, 4, 6, 7, 17]),
+    (GAP, &[1, 22, 4, 6, 7, 23, 9, 10, 24, 25]),
+];
+
+/// Gap rules in lists, and the drafts that they begin.
+#[derive(Default)]
+pub struct Gaps {
+    /// accepted ones, and those with too many rows, by their rows
+    lengths: BTreeMap<usize, usize>,
+    /// refused ones that left a draft
+    drafts_left: usize,
+    /// rows sent to a draft that a gap rule began
+    pub rows: Refusals,
+    /// puts of such a draft
+    pub puts: Refusals,
+}
 
 #[derive(Default)]
 pub struct Tally {
@@ -14,8 +41,13 @@ pub struct Tally {
     pub altered_tables: usize,
     /// sheets whose total was compared with a table and with the slot bytes
     pub totals: usize,
-    /// commands, questions and lines of sheets by their refusal; 0 for none
-    pub refusals: [usize; LAST_REFUSAL + 1],
+    /// commands that sheets show as accepted, by their kind
+    pub sheet_lines: [usize; LAST_KIND as usize + 1],
+    /// of commands, questions and lines of sheets
+    pub refusals: Refusals,
+    /// of the commands of lists, by their kind
+    pub kinds: [Refusals; LAST_KIND as usize + 1],
+    pub gaps: Gaps,
     pub struck: usize,
     pub reopened: usize,
     /// lifts that touched more slots than they reopened
@@ -25,9 +57,12 @@ pub struct Tally {
 }
 
 impl Tally {
-    pub fn command(&mut self, refusal: u8, ledger: &Ledger) {
+    pub fn command(&mut self, bytes: &[u8], refusal: u8, ledger: &Ledger) {
         self.commands += 1;
         self.refusals[refusal as usize] += 1;
+        if let Some(seen) = bytes.first().and_then(|kind| self.kinds.get_mut(*kind as usize)) {
+            seen[refusal as usize] += 1;
+        }
         self.most_rules = self.most_rules.max(ledger.rules.len());
         self.most_rows = self.most_rows.max(ledger.draft.as_ref().map_or(0, |(_, rule)| rule.rows.len()));
     }
@@ -47,15 +82,81 @@ impl Tally {
         );
         println!("{struck} slots struck, {reopened} reopened; {struck_again} lifts struck some again");
         println!("at most {} rules in force, {} rows in a draft", self.most_rules, self.most_rows);
-        let refused = (1..).zip(&self.refusals[1..]).map(|(number, seen)| format!(" {number}: {seen}"));
-        println!("accepted {}; refused under{}", self.refusals[0], refused.collect::<String>());
+        println!("{}", decisions(&self.refusals));
+        println!("accepted on sheets by kind {:?}", &self.sheet_lines[1..]);
+        if self.lists > 0 {
+            self.print_lists();
+        }
+    }
+
+    fn print_lists(&self) {
+        for (kind, _) in REFUSALS_OF_KIND {
+            println!("kind {kind} in lists: {}", decisions(&self.kinds[kind as usize]));
+        }
+        self.gaps.print();
     }
 
     /// Every refusal was seen, lifts reopened slots and struck some again, a board and a draft were full, and tables were altered.
     pub fn check_complete(&self) {
         assert!(!self.refusals.contains(&0), "a refusal was never seen");
+        assert!(!self.sheet_lines[1..].contains(&0), "no sheet shows a kind as accepted");
+        self.check_kinds();
+        self.gaps.check_complete();
         assert!(self.reopened > 0 && self.struck_again > 0, "no lift did anything");
         assert!((self.most_rules, self.most_rows) == (64, 64), "no board was full");
         assert!(self.altered_tables > 0 && self.totals > 0, "no table was altered, or no sheet had a total");
+    }
+
+    /// Each kind was accepted in lists, and refused under each of its numbers.
+    fn check_kinds(&self) {
+        for (kind, refusals) in REFUSALS_OF_KIND {
+            let seen = &self.kinds[kind as usize];
+            assert!(seen[0] > 0, "kind {kind} was never accepted in a list");
+            let missed: Vec<_> = refusals.iter().filter(|number| seen[**number] == 0).collect();
+            assert!(missed.is_empty(), "kind {kind} was never refused in a list under {missed:?}");
+        }
+    }
+}
+
+fn decisions(seen: &Refusals) -> String {
+    let refused = (1..).zip(&seen[1..]).filter(|(_, seen)| **seen > 0);
+    let refused: String = refused.map(|(number, seen)| format!(" {number}: {seen}")).collect();
+    format!("accepted {}; refused under{refused}", seen[0])
+}
+
+impl Gaps {
+    /// A gap rule that was sent. A refused one leaves the ledger, and its draft, as it was.
+    pub fn rule(&mut self, bytes: &[u8], refusal: u8, ledger: &Ledger) {
+        if matches!(refusal, 0 | 25) {
+            let rows = ledger.fitting_rows(bytes[1], &bytes[3..5], bytes[5]);
+            *self.lengths.entry(rows.len()).or_default() += 1;
+        }
+        self.drafts_left += (refusal != 0 && ledger.draft.is_some()) as usize;
+    }
+
+    fn of_length(&self, rows: usize) -> usize {
+        self.lengths.get(&rows).copied().unwrap_or(0)
+    }
+
+    fn print(&self) {
+        let [none, below, full, over] = [0, 63, 64, 65].map(|rows| self.of_length(rows));
+        println!("gap rules in lists: {none} without rows, {below} of 63 rows, {full} of 64, {over} of 65");
+        println!("drafts left by refused gap rules: {}", self.drafts_left);
+        println!("rows sent to drafts of gap rules: {}", decisions(&self.rows));
+        println!("puts of drafts of gap rules: {}", decisions(&self.puts));
+    }
+
+    /// Gap rules had no rows, or about as many as there may be; refused ones left a draft; and their own drafts were put, and took rows but none twice.
+    fn check_complete(&self) {
+        for rows in [0, 63, 64, 65] {
+            assert!(self.of_length(rows) > 0, "no gap rule in a list had {rows} rows");
+        }
+        assert!(self.drafts_left > 0, "no refused gap rule left a draft");
+        for number in [0, 13, 15] {
+            assert!(self.rows[number] > 0, "no row for the draft of a gap rule was answered {number}");
+        }
+        for number in [0, 16] {
+            assert!(self.puts[number] > 0, "no put of the draft of a gap rule was answered {number}");
+        }
     }
 }

@@ -1,7 +1,7 @@
 //! The writer of random commands: what a list is to do next is planned from the ledger, and some commands are damaged. Whether one is refused is not for the
 //! writer to know.
 
-use crate::ledger::{self, Ledger, BOARD, HEAD, LAST_KIND, LIFT, PUT, ROW};
+use crate::ledger::{self, Ledger, BOARD, GAP, HEAD, LAST_KIND, LIFT, PUT, ROW};
 use crate::random::Random;
 use std::collections::VecDeque;
 
@@ -71,18 +71,39 @@ impl Writer {
         if random.percent(self.sizes.lifts) {
             return vec![vec![LIFT, in_force(random, ledger)]];
         }
+        // a gap rule needs two calls
+        if random.percent(if ledger.counts.len() == 1 { 3 } else { 30 }) {
+            return self.gap_rule(ledger);
+        }
         self.rule(ledger)
     }
 
-    /// The head, the rows and the put of a rule. Its number is mostly free.
-    fn rule(&mut self, ledger: &Ledger) -> Vec<Vec<u8>> {
-        let random = &mut self.random;
-        let calls = some_calls(random, ledger.counts.len());
+    /// A number for a rule, mostly a free one.
+    fn number(&mut self, ledger: &Ledger) -> u8 {
         let mut numbers: Vec<u8> = (0..self.sizes.numbers as u8).collect();
-        if random.below(8) != 0 && ledger.rules.len() < numbers.len() {
+        if self.random.below(8) != 0 && ledger.rules.len() < numbers.len() {
             numbers.retain(|number| !ledger.rules.contains_key(number));
         }
-        let number = *random.choose(&numbers);
+        *self.random.choose(&numbers)
+    }
+
+    /// A gap rule, now and then some rows more, which it may have already, and the put.
+    fn gap_rule(&mut self, ledger: &Ledger) -> Vec<Vec<u8>> {
+        let number = self.number(ledger);
+        let random = &mut self.random;
+        let bytes = some_gap_rule(random, ledger, number);
+        let counts = [bytes[3], bytes[4]].map(|call| ledger.count(call).max(1) as usize);
+        let more = if random.percent(40) { random.between((1, 4)) } else { 0 };
+        let rows = (0..more).map(|_| command(ROW, &any_row(random, &counts)));
+        [vec![bytes], rows.collect(), vec![vec![PUT]]].concat()
+    }
+
+    /// The head, the rows and the put of a rule.
+    fn rule(&mut self, ledger: &Ledger) -> Vec<Vec<u8>> {
+        let number = self.number(ledger);
+        let random = &mut self.random;
+        let arity = *random.choose(&[1, 2, 2, 2, 2, 3, 3, 4]);
+        let calls = some_calls(random, arity, ledger.counts.len());
         let head = command(HEAD, &[&[number, calls.len() as u8], &calls[..]].concat());
         let counts: Vec<usize> = calls.iter().map(|call| ledger.count(*call).max(1) as usize).collect();
         let rows = some_rows(random, &counts, self.sizes.rows);
@@ -110,9 +131,10 @@ fn in_force(random: &mut Random, ledger: &Ledger) -> u8 {
     }
 }
 
-/// The calls of a rule on a board of n calls: different ones, mostly neighbours in a circle, so that strikes come around.
-fn some_calls(random: &mut Random, n: usize) -> Vec<u8> {
-    let arity = (*random.choose(&[1, 2, 2, 2, 2, 3, 3, 4])).min(n.max(1));
+/// The calls of a rule on a board of n calls, fewer than the arity where there are no more: different ones, mostly neighbours in a circle, so that strikes come
+/// around.
+fn some_calls(random: &mut Random, arity: usize, n: usize) -> Vec<u8> {
+    let arity = arity.min(n.max(1));
     let first = random.below(n.max(1));
     if random.percent(75) {
         let step = if random.percent(60) { 1 } else { n.max(1) - 1 };
@@ -162,6 +184,47 @@ fn equal_row(random: &mut Random, counts: &[usize]) -> Vec<u8> {
     }
 }
 
+/// A gap rule on two calls of the board, with a gap below the larger of their counts. On a board of one call it is on that one twice.
+pub fn gap_rule_within(random: &mut Random, ledger: &Ledger, number: u8) -> Vec<u8> {
+    let calls = some_calls(random, 2, ledger.counts.len());
+    let (first, second) = (calls[0], calls[calls.len() - 1]);
+    let slots = ledger.count(first).max(ledger.count(second)).max(1) as usize;
+    let form = random.between((1, 3)) as u8;
+    let gap = if form == 3 { 0 } else { random.below(slots) as u8 };
+    vec![GAP, form, number, first, second, gap]
+}
+
+/// A gap rule, or of several the one whose rows are nearest to 64. One in four has some fields at their limits or past them.
+fn some_gap_rule(random: &mut Random, ledger: &Ledger, number: u8) -> Vec<u8> {
+    let tries = *random.choose(&[1, 1, 1, 4, 40]);
+    let rules: Vec<Vec<u8>> = (0..tries).map(|_| gap_rule_within(random, ledger, number)).collect();
+    let rows = |bytes: &[u8]| ledger.fitting_rows(bytes[1], &bytes[3..5], bytes[5]).len();
+    let mut bytes = rules.into_iter().min_by_key(|bytes| rows(bytes).abs_diff(64)).unwrap();
+    if random.percent(25) {
+        for _ in 0..random.between((1, 3)) {
+            to_limit(random, &mut bytes, ledger.counts.len() as u8);
+        }
+    }
+    bytes
+}
+
+/// A field of a gap rule on a board of n calls becomes one at its limit, or past it.
+fn to_limit(random: &mut Random, bytes: &mut [u8], n: u8) {
+    match random.below(6) {
+        0 => bytes[1] = *random.choose(&[0, 1, 3, 4, 255]),
+        1 => bytes[2] = *random.choose(&[0, 63, 64, 255]),
+        2 => bytes[5] = *random.choose(&[0, 1, 30, 31, 32, 255]),
+        3 => bytes[4] = bytes[3],
+        place => bytes[place - 1] = *random.choose(&[n.saturating_sub(1), n, 31, 32, 255]),
+    }
+}
+
+/// A gap rule with any fields, most of them not far past their limits.
+pub fn any_gap_rule(random: &mut Random) -> Vec<u8> {
+    let fields = [4, 64, 32, 32, 32].map(|limit| random.near(limit));
+    command(GAP, &fields)
+}
+
 /// A command of any kind with any fields, many of them near what a board takes.
 pub fn any_command(random: &mut Random) -> Vec<u8> {
     let kind = random.below(LAST_KIND as usize + 2) as u8;
@@ -176,6 +239,7 @@ pub fn any_command(random: &mut Random) -> Vec<u8> {
             bytes[3 + columns..].fill(255);
         }
         ROW if random.percent(70) => bytes[1 + columns..].fill(255),
+        GAP if random.percent(70) => bytes[1] = random.between((1, 3)) as u8,
         _ => (),
     }
     bytes

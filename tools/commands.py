@@ -10,10 +10,14 @@ Without FILE, or where it is -, the input is standard input. The lines:
     row 0 0            a row of the draft: a slot for each column
     put                the draft comes into force
     lift 5             rule 5 leaves force
+    before 1 0 2 3     a draft of rule 1: the slot of call 0 is 3 or more before that of call 2
+    apart 1 0 2 3      a draft of rule 1: the slots of calls 0 and 2 are 3 or more apart
+    same 1 0 2         a draft of rule 1: the slots of calls 0 and 2 are the same
     bytes 9 255 0      these bytes as they stand, whatever they are
 
-Counts left out are 0, and calls and slots left out 255. What follows # is a comment. Numbers are 0 to 255: whether a command
-makes sense is for the board to say, so that its refusals can be tried. Text is UTF-8.
+A draft by before, apart or same has every pair of slots that fits as a row, and more rows may follow. Left out, counts are 0, calls
+and slots 255, and the gap of same is 0. What follows # is a comment. Numbers are 0 to 255: whether a command makes sense is for the
+board to say, so that its refusals can be tried. Text is UTF-8.
 
 Ends with 1 where a line is wrong or something can't be read or written, and with 2 where it is called in another way.
 """
@@ -21,15 +25,19 @@ import re
 import signal
 import sys
 
-# word, kind, how many numbers at least and at most, and what stands for those left out
-FORMS = {
-    "board": (1, 1, 32, 0),
-    "head": (2, 2, 6, 255),
-    "row": (3, 1, 4, 255),
-    "put": (4, 0, 0, 0),
-    "lift": (5, 1, 1, 0),
+# word, the bytes that it stands for, how many numbers follow at least and at most, and what stands for those left out
+WORDS = {
+    "board": ([1], 1, 32, 0),
+    "head": ([2], 2, 6, 255),
+    "row": ([3], 1, 4, 255),
+    "put": ([4], 0, 0, 0),
+    "lift": ([5], 1, 1, 0),
+    "before": ([6, 1], 4, 4, 0),
+    "apart": ([6, 2], 4, 4, 0),
+    "same": ([6, 3], 3, 4, 0),
 }
-WORDS = {kind: word for word, (kind, _, _, _) in FORMS.items()}
+# how many bytes a command of each kind has
+LENGTHS = {start[0]: len(start) + most for start, _, most, _ in WORDS.values()}
 LINE_END = re.compile("\r\n|\r|\n")
 
 
@@ -58,13 +66,13 @@ def line_bytes(line):
     word, fields = words[0], words[1:]
     if word == "bytes":
         return bytes(map(number, fields))
-    if word not in FORMS:
-        raise WrongLine(f"there is no command {shown(word)}, only board, head, row, put, lift and bytes")
-    kind, least, most, spare = FORMS[word]
+    if word not in WORDS:
+        raise WrongLine(f"there is no command {shown(word)}, only {', '.join(WORDS)} and bytes")
+    start, least, most, spare = WORDS[word]
     if not least <= len(fields) <= most:
-        wanted = f"{least} to {most} numbers" if least < most else "1 number" if most == 1 else "no numbers"
+        wanted = f"{least} to {most} numbers" if least < most else {0: "no numbers", 1: "1 number"}.get(most, f"{most} numbers")
         raise WrongLine(f"'{word}' takes {wanted}, not {len(fields)}")
-    return bytes([kind, *map(number, fields)] + [spare] * (most - len(fields)))
+    return bytes([*start, *map(number, fields)] + [spare] * (most - len(fields)))
 
 
 def to_bytes(text):
@@ -77,25 +85,31 @@ def to_bytes(text):
     return b"".join(found), wrong
 
 
-def command_text(kind, body):
-    word = WORDS[kind]
-    _, least, _, spare = FORMS[word]
-    fields = list(body)
-    while len(fields) > max(least, 1 if body else 0) and fields[-1] == spare:
-        fields.pop()
-    return " ".join([word] + [str(n) for n in fields])
+def wordless_text(data, why):
+    return "bytes " + " ".join(map(str, data)) + f"    # {why}"
+
+
+def command_text(command):
+    """The line of a whole command. A kind 6 whose form has no word is shown by its bytes."""
+    for word, (start, least, _, spare) in WORDS.items():
+        if command.startswith(bytes(start)):
+            fields = list(command[len(start):])
+            while len(fields) > least and fields[-1] == spare:
+                fields.pop()
+            return " ".join([word, *map(str, fields)])
+    return wordless_text(command, f"no form {command[1]}")
 
 
 def to_text(data):
     lines, at = [], 0
     while at < len(data):
         kind = data[at]
-        end = at + 1 + FORMS[WORDS[kind]][2] if kind in WORDS else 0
-        if kind not in WORDS or end > len(data):
-            why = "a body cut short" if kind in WORDS else f"no kind {kind}"
-            lines.append("bytes " + " ".join(str(b) for b in data[at:]) + f"    # {why}: no more is read")
+        end = at + LENGTHS.get(kind, 0)
+        if kind not in LENGTHS or end > len(data):
+            why = "a body cut short" if kind in LENGTHS else f"no kind {kind}"
+            lines.append(wordless_text(data[at:], f"{why}: no more is read"))
             break
-        lines.append(command_text(kind, data[at + 1:end]))
+        lines.append(command_text(data[at:end]))
         at = end
     return "".join(line + "\n" for line in lines)
 

@@ -8,7 +8,7 @@ use Rattle.layout.specs.Value.{freshValue}
 
 -- it rises with any change of a struct, of a function or of what one means
 abbrev pub interfaceVersion : ℕ
-interfaceVersion = 4
+interfaceVersion = 5
 
 -- the bytes of each field, one after another: fields of bytes leave no room between them
 abbrev pub headsSize : Heads → ℕ

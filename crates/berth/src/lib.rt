@@ -22,7 +22,7 @@ ghost use Rattle.layout.specs.Memory.{memory, wholeOf};
 ghost use Rattle.berth.specs.Version.{interfaceVersion, valueSize};
 
 // A host compares these two with what its header says. They take and return plain numbers, so that a host of any version can ask.
-const VERSION: u32 = 4;
+const VERSION: u32 = 5;
 
 // The bytes of `Value`: 416 of the heads and 263 of the draft.
 const VALUE_SIZE: usize = 679;

@@ -2,6 +2,7 @@
 // Proved: what it reads is specs/Commands.antt's readAt, on every input. Assumed: nothing.
 use model::command::Command;
 use model::command::Decoded;
+use model::command::GapRule;
 use model::command::Head;
 use model::command::Read;
 use model::command::Row;
@@ -11,12 +12,12 @@ ghost use mathlib.Core.Path.{_≡_};
 ghost use mathlib.Core.Bool.{true};
 ghost use Prim.Native.Nat.{_+_, _≤_};
 ghost use lib.ListN.{length};
-ghost use Rattle.model.specs.Commands.{isKind, bodySize, headAt, rowAt, commandAt, countsAt, readAt};
+ghost use Rattle.model.specs.Commands.{isKind, bodySize, headAt, rowAt, gapAt, commandAt, countsAt, readAt};
 
 fn is_kind(k: u8) -> bool
     ensures { λ r. ⌜ r ≡ isKind k ⌝ }
 {
-    1 <= k && k <= 5
+    1 <= k && k <= 6
 }
 
 fn body_length(k: u8) -> usize
@@ -27,11 +28,12 @@ fn body_length(k: u8) -> usize
         2 => 6,
         3 => 4,
         5 => 1,
+        6 => 5,
         _ => 0,
     }
 }
 
-// The next four read a body that begins at b, which their caller has found to be in s whole.
+// The next five read a body that begins at b, which their caller has found to be in s whole.
 fn head_at(s: &[u8], b: usize) -> Head
     requires { ⌜ b + bodySize 2 ≤ length (now s) ⌝ }
     ensures { λ r. ⌜ r ≡ headAt (now (s .entry)) b ⌝ }
@@ -58,7 +60,20 @@ fn row_at(s: &[u8], b: usize) -> Row
     }
 }
 
-// The command of kind k, 1 to 5.
+fn gap_at(s: &[u8], b: usize) -> GapRule
+    requires { ⌜ b + bodySize 6 ≤ length (now s) ⌝ }
+    ensures { λ r. ⌜ r ≡ gapAt (now (s .entry)) b ⌝ }
+{
+    GapRule {
+        form: s[b],
+        number: s[b + 1],
+        first: s[b + 2],
+        second: s[b + 3],
+        gap: s[b + 4],
+    }
+}
+
+// The command of kind k, 1 to 6.
 fn command_at(s: &[u8], k: u8, b: usize) -> Command
     requires { ⌜ isKind k ≡ true ⌝ }
     requires { ⌜ b + bodySize k ≤ length (now s) ⌝ }
@@ -69,7 +84,8 @@ fn command_at(s: &[u8], k: u8, b: usize) -> Command
         2 => Command::Head(head_at(s, b)),
         3 => Command::Row(row_at(s, b)),
         4 => Command::Post,
-        _ => Command::Retract(s[b]),
+        5 => Command::Retract(s[b]),
+        _ => Command::Gap(gap_at(s, b)),
     }
 }
 

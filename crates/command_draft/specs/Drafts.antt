@@ -1,4 +1,4 @@
--- THE DRAFTS that kinds 2 and 3 leave.
+-- THE DRAFTS that kinds 2 and 3 leave, and what every kind that only writes the draft promises.
 use mathlib.Core.Path.{_≡_}
 use mathlib.Core.Bool.{Bool, cond}
 use mathlib.Core.List.{List}
@@ -15,9 +15,9 @@ use Rattle.model.specs.declared.command.Command.{Command}
 use Rattle.model.specs.declared.command.Command.the-variants as kind
 use Rattle.model.specs.Commands.{scopeOf}
 use Rattle.model.specs.Refusals.{firstOf}
-use Rattle.model.specs.Promise.{KindPromise}
+use Rattle.model.specs.Promise.{KindPromise, refusedWith, acceptedWith}
 use Rattle.command_draft.specs.declared.redraft.Redrafted.{Redrafted}
-use Rattle.layout.specs.Value.{emptyRule}
+use Rattle.layout.specs.Value.{emptyRule, withDraft}
 use Rattle.layout.specs.Memory.{stateOf}
 
 -- A KIND THAT ONLY WRITES THE DRAFT keeps its promise over any buffers, and they stay as they are
@@ -29,6 +29,10 @@ DraftPromise value c r =
 pub record Redraws (checks : List (Bool × ℕ)) (old new : Draft) (r : Redrafted) : Type 0 where
   pub number : r .number ≡ firstOf checks
   pub draft : r .draft ≡ cond (eqb (r .number) 0) new old
+
+-- the outcome from it: refused with the value as it was, or accepted with 0, 0, 0 and the draft that is left
+abbrev pub draftOutcome : Value → Redrafted → Outcome
+draftOutcome value r = cond (eqb (r .number) 0) (acceptedWith 0 0 0 (withDraft value (r .draft))) (refusedWith (r .number) value)
 
 -- a head without rows
 abbrev pub draftOf : Head → Draft

@@ -1,4 +1,4 @@
-// The checks of fields that kinds 2 and 3 make: each looks at one condition of SCOPE 4.1, over the bytes, whatever they hold.
+// The checks of fields that kinds 2 and 3 make, and kind 6 one of them: each looks at one condition of SCOPE 4.1, over the bytes, whatever they hold.
 ghost use mathlib.Core.Path.{_≡_};
 ghost use Prim.Native.Nat.{_≤_, _<_};
 ghost use lib.ListN.{length};
@@ -6,7 +6,7 @@ ghost use Rattle.model.specs.Ledger.{badSpare?};
 ghost use Rattle.command_draft.specs.Fields.{offBoard?, callOffBoard?, callBefore?, callTwice?, badArity?, slotOff?, slotOffCall?, sameRow?, rowInDraft?};
 
 // Whether call x is not on the board.
-fn off_board(counts: &[u8; 32], x: u8) -> bool
+pub fn off_board(counts: &[u8; 32], x: u8) -> bool
     ensures { λ r. ⌜ r ≡ offBoard? (now (counts .entry)) x ⌝ }
 {
     32 <= x || counts[x as usize] == 0

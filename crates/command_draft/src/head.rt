@@ -1,6 +1,7 @@
 // Kind 2: starts a draft, in the place of any other.
 use crate::fields;
 use crate::redraft::Redrafted;
+use crate::redraft::outcome_of;
 use layout::places::cap;
 use layout::value::Draft;
 use layout::value::RuleData;
@@ -68,8 +69,5 @@ pub fn start_draft(value: Value, head: Head) -> Outcome
     let counts = heads.counts;
     let draft = value.draft;
     let next = redraft(&counts, draft, head);
-    if next.number != 0 {
-        return Outcome::refused(next.number, value);
-    }
-    Outcome::accepted(0, 0, 0, value.with_draft(next.draft))
+    outcome_of(value, next)
 }

@@ -1,6 +1,7 @@
 // Kind 3: adds a row to the draft.
 use crate::fields;
 use crate::redraft::Redrafted;
+use crate::redraft::outcome_of;
 use layout::places::cap;
 use layout::value::Draft;
 use layout::value::RuleData;
@@ -93,8 +94,5 @@ pub fn add_row(value: Value, row: Row) -> Outcome
     let counts = heads.counts;
     let draft = value.draft;
     let next = redraft(&counts, draft, row);
-    if next.number != 0 {
-        return Outcome::refused(next.number, value);
-    }
-    Outcome::accepted(0, 0, 0, value.with_draft(next.draft))
+    outcome_of(value, next)
 }

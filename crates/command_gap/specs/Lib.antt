@@ -1,3 +1,4 @@
 pub mod Pairs
 pub mod Draft
+pub mod Checks
 pub mod Laws

@@ -33,5 +33,6 @@ pub fn obey(
             killers,
             slots,
         ),
+        Command::Gap(f) => command_gap::gap::draft_gap(value, f),
     }
 }

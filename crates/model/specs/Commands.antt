@@ -6,6 +6,7 @@ use lib.ListN.{length, getD, take, drop, replicate}
 use lib.Dec.{leb, eqb}
 use Rattle.model.specs.declared.command.Head.{Head}
 use Rattle.model.specs.declared.command.Row.{Row}
+use Rattle.model.specs.declared.command.GapRule.{GapRule}
 use Rattle.model.specs.declared.command.Command.{Command}
 use Rattle.model.specs.declared.command.Command.the-variants as kind
 use Rattle.model.specs.declared.command.Read.{Read}
@@ -15,18 +16,21 @@ use Rattle.model.specs.Numbers as refused
 
 -- the kinds that there are, and how many bytes follow the kind's own
 abbrev pub isKind : ℕ → Bool
-isKind k = leb 1 k && leb k 5
+isKind k = leb 1 k && leb k 6
 
 abbrev pub bodySize : ℕ → ℕ
-bodySize k = cond (eqb k 1) 32 (cond (eqb k 2) 6 (cond (eqb k 3) 4 (cond (eqb k 5) 1 0)))
+bodySize k = cond (eqb k 1) 32 (cond (eqb k 2) 6 (cond (eqb k 3) 4 (cond (eqb k 5) 1 (cond (eqb k 6) 5 0))))
 
--- the bodies of kinds 2 and 3 that begin at b
+-- the bodies of kinds 2, 3 and 6 that begin at b
 abbrev pub headAt : List ℕ → ℕ → Head
 headAt s b =
     record { number = getD s b 0; arity = getD s (b + 1) 0; call0 = getD s (b + 2) 0; call1 = getD s (b + 3) 0; call2 = getD s (b + 4) 0; call3 = getD s (b + 5) 0 }
 
 abbrev pub rowAt : List ℕ → ℕ → Row
 rowAt s b = record { slot0 = getD s b 0; slot1 = getD s (b + 1) 0; slot2 = getD s (b + 2) 0; slot3 = getD s (b + 3) 0 }
+
+abbrev pub gapAt : List ℕ → ℕ → GapRule
+gapAt s b = record { form = getD s b 0; number = getD s (b + 1) 0; first = getD s (b + 2) 0; second = getD s (b + 3) 0; gap = getD s (b + 4) 0 }
 
 -- the four calls of a head, the four slots of a row
 abbrev pub scopeOf : Head → List ℕ
@@ -42,7 +46,8 @@ commandAt s k b =
     (cond (eqb k 2) (kind.Head (headAt s b))
     (cond (eqb k 3) (kind.Row (rowAt s b))
     (cond (eqb k 4) kind.Post
-    (kind.Retract (getD s b 0)))))
+    (cond (eqb k 5) (kind.Retract (getD s b 0))
+    (kind.Gap (gapAt s b))))))
 
 abbrev pub kindOf : Command → ℕ
 kindOf kind.Board = 1
@@ -50,6 +55,7 @@ kindOf (kind.Head h) = 2
 kindOf (kind.Row r) = 3
 kindOf kind.Post = 4
 kindOf (kind.Retract n) = 5
+kindOf (kind.Gap f) = 6
 
 -- the 32 slot counts of a kind 1 whose body begins at b; zeros for every other kind
 abbrev pub countsAt : List ℕ → ℕ → ℕ → List ℕ

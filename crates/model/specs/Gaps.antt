@@ -1,4 +1,4 @@
--- GAP RULES, which order 3 calls standing forms: a rule of two calls that is given by the gap between their slots. No command makes one yet.
+-- GAP RULES, which order 3 calls standing forms: a rule of two calls that is given by the gap between their slots. Kind 6 drafts one.
 use mathlib.Core.Bool.{Bool, not, _&&_, _||_, cond}
 use mathlib.Core.List.{List, [], _∷_, _++_}
 use Prim.Native.Nat.{ℕ, zero, suc, _+_, _*_, _/_, _%_}
@@ -7,7 +7,7 @@ use lib.Dec.{eqb, ltb, leb}
 use Rattle.model.specs.declared.command.GapRule.{GapRule}
 use Rattle.model.specs.Board.{Rule}
 
--- there is no such form; a gap that no two slots can have, or one that is not 0 where the slots have to be equal
+-- 23: there is no such form; 24: a gap that no two slots can have, or one that is not 0 where the slots have to be equal
 abbrev pub badForm? : ℕ → Bool
 badForm? form = ltb form 1 || ltb 3 form
 

@@ -15,6 +15,7 @@ use Rattle.model.specs.declared.command.Read.the-variants as found
 use Rattle.model.specs.Board.{Rule, Board, callAt, slotAt, GoodRule, Shape}
 use Rattle.model.specs.Tests.{some?, every?, isNone}
 use Rattle.model.specs.Commands.{scopeOf, slotsOf, readAt}
+use Rattle.model.specs.Gaps.{badForm?, badGap?, ruleOfGap}
 use Rattle.layout.specs.Sizes.{CommandLent, badLent?, badTable?, killersLength, rowsLength, slotsLength, recordsLength}
 use Rattle.model.specs.Refusals.{firstOf}
 use Rattle.model.specs.Numbers as refused
@@ -93,6 +94,17 @@ conditionsFor reserved L (kind.Row w) ns =
     ∷ []
 conditionsFor reserved L kind.Post ns = (noBoard? L, refused.noBoard) ∷ (isNone (L .draft), refused.noDraft) ∷ (not (notInForce? L (draftOr (L .draft) .number)), refused.inForce) ∷ []
 conditionsFor reserved L (kind.Retract n) ns = (noBoard? L, refused.noBoard) ∷ (badNumber? n, refused.badNumber) ∷ (reserved n ++ ((notInForce? L n, refused.notInForce) ∷ []))
+conditionsFor reserved L (kind.Gap f) ns =
+    let counts = L .board .counts in
+    (noBoard? L, refused.noBoard)
+    ∷ (badNumber? (f .number), refused.badNumber)
+    ∷ (reserved (f .number)
+    ++ ((badForm? (f .form), refused.badForm)
+    ∷ (leb (length counts) (f .first) || leb (length counts) (f .second), refused.callOffBoard)
+    ∷ (eqb (f .first) (f .second), refused.callTwice)
+    ∷ (badGap? (f .form) (f .gap), refused.badGap)
+    ∷ (ltb 64 (length (ruleOfGap counts f .rows)), refused.tooManyPairs)
+    ∷ []))
 
 -- the board itself reserves no number
 abbrev pub noneReserved : ℕ → List (Bool × ℕ)
@@ -134,7 +146,7 @@ abbrev pub withRule : Board → ℕ → Option Rule → Board
 withRule B p r = record { counts = B .counts; rules = set (B .rules) p r }
 
 -- WHAT AN ACCEPTED COMMAND DOES (SCOPE 6.7): kind 1 leaves nothing but its counts, kind 2 begins a draft, kind 3 lengthens it by a row, kind 4 makes it a rule
--- in force, kind 5 takes such a rule away
+-- in force, kind 5 takes such a rule away; kind 6 begins a draft with all the rows of a gap rule
 abbrev pub effect : Ledger → Command → List ℕ → Ledger
 effect L kind.Board ns = record { board = bare (upToZero ns); draft = none }
 effect L (kind.Head h) ns =
@@ -148,6 +160,7 @@ effect L (kind.Row w) ns =
     }
 effect L kind.Post ns = let d = draftOr (L .draft) in record { board = withRule (L .board) (d .number) (some (d .rule)); draft = none }
 effect L (kind.Retract n) ns = record { board = withRule (L .board) n none; draft = L .draft }
+effect L (kind.Gap f) ns = record { board = L .board; draft = some (record { number = f .number; rule = ruleOfGap (L .board .counts) f }) }
 
 abbrev pub readEffect : Ledger → Read → List ℕ → Ledger
 readEffect L (found.Command c) ns = effect L c ns

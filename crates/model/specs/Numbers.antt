@@ -33,11 +33,11 @@ badNumber = 7
 abbrev pub badArity : ℕ
 badArity = 8
 
--- a call of the head is not on the board
+-- a call of the rule is not on the board
 abbrev pub callOffBoard : ℕ
 callOffBoard = 9
 
--- a call stands twice in the head
+-- a call stands twice in the rule
 abbrev pub callTwice : ℕ
 callTwice = 10
 
@@ -88,3 +88,15 @@ noColumn = 21
 -- the lent summary table is not of its length
 abbrev pub tableLength : ℕ
 tableLength = 22
+
+-- a gap rule's form is not 1 to 3
+abbrev pub badForm : ℕ
+badForm = 23
+
+-- the gap is over 31, or not 0 in form 3
+abbrev pub badGap : ℕ
+badGap = 24
+
+-- over 64 pairs of slots fit
+abbrev pub tooManyPairs : ℕ
+tooManyPairs = 25

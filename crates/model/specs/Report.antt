@@ -52,6 +52,7 @@ changesSlots? (kind.Head h) = false
 changesSlots? (kind.Row w) = false
 changesSlots? kind.Post = true
 changesSlots? (kind.Retract n) = true
+changesSlots? (kind.Gap f) = false
 
 -- S and R of an accepted command, from the boards before and after
 abbrev pub struckBy : Command → Board → Board → ℕ
@@ -71,13 +72,14 @@ pub record RetractOwn (before after : State) (r : Report) : Type 0 where
   pub least : r .reopened ≤ r .touched
   pub most : r .touched ≤ struckIn (before .slots)
 
--- what a kind says of its own (SCOPE 3.8 to 3.10): kinds 1, 2 and 3 touch nothing
+-- what a kind says of its own (SCOPE 3.8 to 3.10): kinds 1, 2, 3 and 6 touch nothing
 abbrev pub ReportsOwn : Command → State → State → Report → Type 0
 ReportsOwn kind.Board before after r = r .touched ≡ 0
 ReportsOwn (kind.Head h) before after r = r .touched ≡ 0
 ReportsOwn (kind.Row w) before after r = r .touched ≡ 0
 ReportsOwn kind.Post before after r = PostOwn before after r
 ReportsOwn (kind.Retract n) before after r = RetractOwn before after r
+ReportsOwn (kind.Gap f) before after r = r .touched ≡ 0
 
 -- THE REPORT OF A COMMAND, from the states before and after: S and R count the slots that a put or a lift changed (SCOPE 3.7)
 pub record Reports (c : Command) (before after : State) (r : Report) : Type 0 where

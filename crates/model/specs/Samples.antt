@@ -1,4 +1,5 @@
--- THE STARRED SAMPLE BOARDS P1 TO P12 (SCOPE 8.1 to 8.12), as commands' bytes, with what is to come of the last command of each, and P4's sheet.
+-- THE STARRED SAMPLE BOARDS P1 TO P12 AND G1 TO G7 (SCOPE 8.1 to 8.12, 8.16 to 8.22), as commands' bytes, with what is to come of the last command of each, and P4's
+-- sheet.
 use mathlib.Core.List.{List, [], _∷_, _++_, map}
 use mathlib.Core.Logic.{_↔_}
 use mathlib.Core.Option.{Option, none, some}
@@ -6,6 +7,7 @@ use mathlib.Core.Path.{_≡_}
 use Prim.Native.Nat.{ℕ, _-_, _/_, _%_}
 use lib.ListN.{length, take, replicate}
 use lib.Dec.{T}
+use Rattle.model.specs.declared.command.GapRule.{GapRule}
 use Rattle.model.specs.declared.command.Command.{Command}
 use Rattle.model.specs.declared.command.Read.{Read}
 use Rattle.model.specs.declared.command.Read.the-variants as found
@@ -35,6 +37,9 @@ postBytes = 4 ∷ []
 
 abbrev pub retractBytes : ℕ → List ℕ
 retractBytes number = 5 ∷ number ∷ []
+
+abbrev pub gapBytes : GapRule → List ℕ
+gapBytes f = 6 ∷ f .form ∷ f .number ∷ f .first ∷ f .second ∷ f .gap ∷ []
 
 abbrev pub ledgerOf : List (List ℕ) → Ledger
 ledgerOf commands = run fresh (map member commands)
@@ -203,13 +208,45 @@ abbrev pub p12 : Sample
 p12 =
     record { before = wideRows 64; last = rowBytes (8 ∷ 0 ∷ []); outcome = record { refused = 13; struck = 0; reopened = 0; left = upFrom 0 9 ∷ upFrom 0 8 ∷ []; sheet = none } }
 
+-- G1 TO G7, GAP RULES (SCOPE 8.16 to 8.22) on calls 0 and 1, under number 0. One of each form that is put, the first being P1's, and one that no pair fits
+abbrev pub gapOf : ℕ → ℕ → List ℕ
+gapOf form gap = gapBytes (record { form = form; number = 0; first = 0; second = 1; gap = gap })
+
+abbrev pub gapPut : List ℕ → ℕ → ℕ → ℕ → List (List ℕ) → Sample
+gapPut counts form gap struck left =
+    record {
+      before = boardBytes counts ∷ gapOf form gap ∷ [];
+      last = postBytes;
+      outcome = record { refused = 0; struck = struck; reopened = 0; left = left; sheet = none };
+    }
+
+-- and three that are not put: 64 pairs, 65, and a gap that no two slots have
+abbrev pub gapAlone : ℕ → ℕ → ℕ → ℕ → ℕ → Sample
+gapAlone n m form gap refusal =
+    record {
+      before = boardBytes (n ∷ m ∷ []) ∷ [];
+      last = gapOf form gap;
+      outcome = record { refused = refusal; struck = 0; reopened = 0; left = upFrom 0 n ∷ upFrom 0 m ∷ []; sheet = none };
+    }
+
+abbrev pub gapSamples : List Sample
+gapSamples =
+    gapPut (3 ∷ 3 ∷ 2 ∷ []) 1 1 2 ((0 ∷ 1 ∷ []) ∷ (1 ∷ 2 ∷ []) ∷ (0 ∷ 1 ∷ []) ∷ [])
+    ∷ gapPut (4 ∷ 3 ∷ []) 2 2 1 ((0 ∷ 2 ∷ 3 ∷ []) ∷ (0 ∷ 1 ∷ 2 ∷ []) ∷ [])
+    ∷ gapPut (3 ∷ 2 ∷ []) 3 0 1 ((0 ∷ 1 ∷ []) ∷ (0 ∷ 1 ∷ []) ∷ [])
+    ∷ gapPut (2 ∷ 2 ∷ []) 1 2 4 ([] ∷ [] ∷ [])
+    ∷ gapAlone 8 8 2 0 0
+    ∷ gapAlone 10 11 1 0 25
+    ∷ gapAlone 2 2 2 32 24
+    ∷ []
+
 -- THE LIST
 abbrev pub samples : List Sample
-samples = p1 ∷ p2 ∷ p3 ∷ p4Post ∷ p4Retract ∷ p4Again ∷ p5 ∷ p6 ∷ p7 ∷ p8 ∷ p9 ∷ p10 ∷ p11 ∷ p12 ∷ []
+samples = p1 ∷ p2 ∷ p3 ∷ p4Post ∷ p4Retract ∷ p4Again ∷ p5 ∷ p6 ∷ p7 ∷ p8 ∷ p9 ∷ p10 ∷ p11 ∷ p12 ∷ gapSamples
 
--- WHAT REFUSES BYTES FOR THEIR FORM: no byte, a kind past 5, bodies cut short, bytes left over
+-- WHAT REFUSES BYTES FOR THEIR FORM: no byte, a kind past 6, bodies cut short, bytes left over
 abbrev pub forms : List (List ℕ)
-forms = [] ∷ (6 ∷ []) ∷ (5 ∷ []) ∷ take 32 (boardBytes (1 ∷ [])) ∷ (4 ∷ 0 ∷ []) ∷ []
+forms = [] ∷ (7 ∷ []) ∷ (5 ∷ []) ∷ (6 ∷ 1 ∷ 7 ∷ 0 ∷ 1 ∷ []) ∷ take 32 (boardBytes (1 ∷ [])) ∷ (4 ∷ 0 ∷ []) ∷ []
 
 abbrev pub formNumbers : List ℕ
-formNumbers = 3 ∷ 3 ∷ 4 ∷ 4 ∷ 4 ∷ []
+formNumbers = 3 ∷ 3 ∷ 4 ∷ 4 ∷ 4 ∷ 4 ∷ []

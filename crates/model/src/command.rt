@@ -18,7 +18,7 @@ pub struct Row {
     pub slot3: u8,
 }
 
-// A rule of two calls by the gap between their slots, order 3's standing form: what its command will hold. No command has it yet.
+// A rule of two calls by the gap between their slots, order 3's standing form: kind 6's body.
 pub struct GapRule {
     // 1, 2 or 3
     pub form: u8,
@@ -37,6 +37,7 @@ pub enum Command {
     Post,
     // lift, kind 5: the rule of this number
     Retract(u8),
+    Gap(GapRule),
 }
 
 // What stands at a place of a file.

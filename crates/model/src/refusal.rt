@@ -36,10 +36,10 @@ pub const BAD_NUMBER: u8 = 7;
 // the arity is not 1 to 4
 pub const BAD_ARITY: u8 = 8;
 
-// a call of the head is not on the board
+// a call of the rule is not on the board
 pub const CALL_OFF_BOARD: u8 = 9;
 
-// a call stands twice in the head
+// a call stands twice in the rule
 pub const CALL_TWICE: u8 = 10;
 
 // a field past the arity is not 255
@@ -77,3 +77,12 @@ pub const NO_COLUMN: u8 = 21;
 
 // the lent summary table is not of its length
 pub const TABLE_LENGTH: u8 = 22;
+
+// a gap rule's form is not 1 to 3
+pub const BAD_FORM: u8 = 23;
+
+// the gap is over 31, or not 0 in form 3
+pub const BAD_GAP: u8 = 24;
+
+// over 64 pairs of slots fit
+pub const TOO_MANY_PAIRS: u8 = 25;

@@ -24,6 +24,7 @@ fn kind_of(command: Command) -> u8
         Command::Row(_) => 3,
         Command::Post => 4,
         Command::Retract(_) => 5,
+        Command::Gap(_) => 6,
     }
 }
 

@@ -19,7 +19,7 @@ use Rattle.model.specs.declared.command.Decoded.{Decoded}
 use Rattle.model.specs.Board.{Board}
 use Rattle.model.specs.Tests.{upFrom}
 use Rattle.model.specs.Filter.{openOf}
-use Rattle.model.specs.Commands.{isKind, bodySize, headAt, rowAt, commandAt, countsAt, without, readAt}
+use Rattle.model.specs.Commands.{isKind, bodySize, headAt, rowAt, gapAt, commandAt, countsAt, without, readAt}
 use Rattle.model.specs.Ledger.{Ledger, fresh, lentConditions, formConditions, ownConditions, kindConditions, obey, step, run, lengths, member}
 use Rattle.model.specs.Report.{slotCount, open?}
 use Rattle.model.specs.Summary.{openTotal, openSum}
@@ -87,33 +87,37 @@ read-whole s at c = go (leb (length s) at) (isKind (getD s at 0)) (leb (at + 1 +
     go false false k known f e = let z : _≡_ {A = ℕ} 0 1 = cc in absurd (omega arith)
 
 -- TWO BODIES OF ONE KIND with the same bytes are one command
-one-of-kinds : (k : ℕ) → isKind k ≡ true → eqb k 1 ≡ false → eqb k 2 ≡ false → eqb k 3 ≡ false → eqb k 4 ≡ false → eqb k 5 ≡ false → ⊥
-one-of-kinds k known a b c d e =
-    let both = and-eq-true-iff (leb 1 k) (leb k 5) .0 known in
+one-of-kinds : (k : ℕ) → isKind k ≡ true → eqb k 1 ≡ false → eqb k 2 ≡ false → eqb k 3 ≡ false → eqb k 4 ≡ false → eqb k 5 ≡ false → eqb k 6 ≡ false → ⊥
+one-of-kinds k known a b c d e f =
+    let both = and-eq-true-iff (leb 1 k) (leb k 6) .0 known in
     let least = leb-true 1 k (both .0) in
-    let most = leb-true k 5 (both .1) in
-    go k least most (eqb-false k 1 a) (eqb-false k 2 b) (eqb-false k 3 c) (eqb-false k 4 d) (eqb-false k 5 e)
+    let most = leb-true k 6 (both .1) in
+    go k least most (eqb-false k 1 a) (eqb-false k 2 b) (eqb-false k 3 c) (eqb-false k 4 d) (eqb-false k 5 e) (eqb-false k 6 f)
   where
-    go : (k : ℕ) → 1 ≤ k → k ≤ 5 → (k ≡ 1 → ⊥) → (k ≡ 2 → ⊥) → (k ≡ 3 → ⊥) → (k ≡ 4 → ⊥) → (k ≡ 5 → ⊥) → ⊥
-    go k l m a b c d e = omega arith
+    go : (k : ℕ) → 1 ≤ k → k ≤ 6 → (k ≡ 1 → ⊥) → (k ≡ 2 → ⊥) → (k ≡ 3 → ⊥) → (k ≡ 4 → ⊥) → (k ≡ 5 → ⊥) → (k ≡ 6 → ⊥) → ⊥
+    go k l m a b c d e f = omega arith
 
 command-alike : (s t : List ℕ) (k b b′ : ℕ) → isKind k ≡ true → ((j : ℕ) → j < bodySize k → getD s (b + j) 0 ≡ getD t (b′ + j) 0) → commandAt s k b ≡ commandAt t k b′
-command-alike s t k b b′ known = go (eqb k 1) (eqb k 2) (eqb k 3) (eqb k 4) (eqb k 5) (one-of-kinds k known)
+command-alike s t k b b′ known = go (eqb k 1) (eqb k 2) (eqb k 3) (eqb k 4) (eqb k 5) (eqb k 6) (one-of-kinds k known)
   where
     first : getD s (b + 0) 0 ≡ getD t (b′ + 0) 0 → getD s b 0 ≡ getD t b′ 0
     first e = rw (add-zero b, add-zero b′) at e
 
-    go : (u v w x y : Bool) → (u ≡ false → v ≡ false → w ≡ false → x ≡ false → y ≡ false → ⊥)
-        → ((j : ℕ) → j < cond u 32 (cond v 6 (cond w 4 (cond y 1 0))) → getD s (b + j) 0 ≡ getD t (b′ + j) 0)
-        → cond u kind.Board (cond v (kind.Head (headAt s b)) (cond w (kind.Row (rowAt s b)) (cond x kind.Post (kind.Retract (getD s b 0)))))
-        ≡ cond u kind.Board (cond v (kind.Head (headAt t b′)) (cond w (kind.Row (rowAt t b′)) (cond x kind.Post (kind.Retract (getD t b′ 0)))))
-    go true v w x y last same = refl
-    go false true w x y last same =
+    go : (u v w x y z : Bool) → (u ≡ false → v ≡ false → w ≡ false → x ≡ false → y ≡ false → z ≡ false → ⊥)
+        → ((j : ℕ) → j < cond u 32 (cond v 6 (cond w 4 (cond y 1 (cond z 5 0)))) → getD s (b + j) 0 ≡ getD t (b′ + j) 0)
+        → cond u kind.Board
+        (cond v (kind.Head (headAt s b)) (cond w (kind.Row (rowAt s b)) (cond x kind.Post (cond y (kind.Retract (getD s b 0)) (kind.Gap (gapAt s b))))))
+        ≡ cond u kind.Board
+        (cond v (kind.Head (headAt t b′)) (cond w (kind.Row (rowAt t b′)) (cond x kind.Post (cond y (kind.Retract (getD t b′ 0)) (kind.Gap (gapAt t b′))))))
+    go true v w x y z last same = refl
+    go false true w x y z last same =
         rw (first (same 0 (omega arith)), same 1 (omega arith), same 2 (omega arith), same 3 (omega arith), same 4 (omega arith), same 5 (omega arith)) refl
-    go false false true x y last same = rw (first (same 0 (omega arith)), same 1 (omega arith), same 2 (omega arith), same 3 (omega arith)) refl
-    go false false false true y last same = refl
-    go false false false false true last same = ap kind.Retract (first (same 0 (omega arith)))
-    go false false false false false last same = absurd (last refl refl refl refl refl)
+    go false false true x y z last same = rw (first (same 0 (omega arith)), same 1 (omega arith), same 2 (omega arith), same 3 (omega arith)) refl
+    go false false false true y z last same = refl
+    go false false false false true z last same = ap kind.Retract (first (same 0 (omega arith)))
+    go false false false false false true last same =
+        rw (first (same 0 (omega arith)), same 1 (omega arith), same 2 (omega arith), same 3 (omega arith), same 4 (omega arith)) refl
+    go false false false false false false last same = absurd (last refl refl refl refl refl refl)
 
 -- bytes that are a command with its counts, and nothing more
 pub record Alone (bytes : List ℕ) (c : Command) (counts : List ℕ) : Type 0 where

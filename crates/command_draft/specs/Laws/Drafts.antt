@@ -1,6 +1,6 @@
 -- THE DRAFTS that kinds 2 and 3 leave are those of the stepped ledger. Assumes nothing.
 use mathlib.Core.Path.{_≡_, refl, sym, ap, _∙_}
-use mathlib.Core.Bool.{Bool, false, not, _&&_}
+use mathlib.Core.Bool.{false, not, _&&_}
 use mathlib.Core.List.{List, [], _∷_, _++_}
 use mathlib.Core.Logic.{_⊎_, inl, inr, ⊎-elim}
 use Prim.Native.Nat.{ℕ, zero, suc, _+_, _*_, _<_, _≤_}
@@ -9,11 +9,9 @@ use native.Mathlib.Omega.{arith}
 use lib.ListN.{length, getD, take, set, length-take, length-set, length-append, List·getD-append, List·getD-eq-default}
 use lib.Seq.{getD-take, getD-set-same, getD-set-other, getD-append-seam, length-take-le}
 use lib.Dec.{eqb, leb}
-use borrow.Author.Tests.{eqb-true, eq-eqb, ne-eqb, le-leb, leb-false, not-false}
+use borrow.Author.Tests.{eqb-true, le-leb, leb-false, not-false}
 use Rattle.layout.specs.declared.value.Value.{Value}
 use Rattle.layout.specs.declared.value.RuleData.{RuleData}
-use Rattle.layout.specs.declared.value.Draft.{Draft}
-use Rattle.model.specs.declared.answer.Report.{Report}
 use Rattle.model.specs.declared.command.Head.{Head}
 use Rattle.model.specs.declared.command.Row.{Row}
 use Rattle.model.specs.declared.command.Command.the-variants as kind
@@ -21,17 +19,14 @@ use Rattle.model.specs.Board.{Rule, slotAt}
 use Rattle.model.specs.Commands.{scopeOf, slotsOf}
 use Rattle.model.specs.Ledger.{Ledger, LedgerShape, draftOr, badSpare?, kindConditions}
 use Rattle.model.specs.Representation.{Headed, RuleHeld, Drafted}
-use Rattle.model.specs.Promise.{refusedWith, acceptedWith}
 use Rattle.model.specs.Laws.Tests.{none-passes}
 use Rattle.model.specs.Laws.Refusals.{none-holds, agree-first}
 use Rattle.model.specs.Numbers as refused
-use Rattle.model.specs.Laws.Promised.{promise-refused, promise-accepted}
 use Rattle.command_draft.specs.declared.redraft.Redrafted.{Redrafted}
 use Rattle.command_draft.specs.Fields.{headChecks, addRowChecks}
-use Rattle.command_draft.specs.Drafts.{Redraws, draftOf, StartsDraft, withSlots, longerRule, withRow, AddsRow}
+use Rattle.command_draft.specs.Drafts.{Redraws, draftOf, withSlots, longerRule, withRow}
+use Rattle.command_draft.specs.Laws.Redraft.{new-left, RedraftRight}
 use Rattle.command_draft.specs.Laws.Fields.{any-default, arity-most, draft-limits, head-checks-agree, row-checks-agree}
-use Rattle.layout.specs.Value.{withDraft}
-use Rattle.layout.specs.Memory.{stateOf}
 use Rattle.layout.specs.Laws.Memory.{filled}
 use Rattle.tables.specs.Laws.Facts.{lt-or-le}
 use Rattle.model.specs.Refusals.{firstOf}
@@ -48,21 +43,6 @@ spare-same a xs size good k h =
 
     spare : a ≤ k → getD xs k 255 ≡ getD (take a xs) k 255
     spare le = is-spare le ∙ sym (List·getD-eq-default (take a xs) 255 (omega (arith, length-take a xs)))
-
--- where nothing is refused the new draft is given back, and else the old one
-module _ {checks : List (Bool × ℕ)} {old new : Draft} where
-  pub redraws-old : (n : ℕ) → n ≡ firstOf checks → (n ≡ 0 → ⊥) → Redraws checks old new (record { number = n; draft = old })
-  redraws-old n e ne = record { number = e; draft = rw (ne-eqb n 0 ne) refl }
-
-  pub redraws-new : (n : ℕ) → n ≡ firstOf checks → n ≡ 0 → Redraws checks old new (record { number = n; draft = new })
-  redraws-new n e z = record { number = e; draft = rw (eq-eqb n 0 z) refl }
-
-  pub new-left : {r : Redrafted} → Redraws checks old new r → r .number ≡ 0 → r .draft ≡ new
-  new-left {r} given z = rw (eq-eqb (r .number) 0 z) at (given .draft)
-
--- a kind that only writes the draft reports 0, 0, 0
-abbrev quiet : Report
-quiet = record { struck = 0; reopened = 0; touched = 0 }
 
 -- KIND 2
 head-held : (h : Head) → h .arity ≤ 4 → badSpare? (h .arity) (scopeOf h) ≡ false
@@ -82,19 +62,17 @@ module _ (value : Value) (h : Head) where
       → firstOf (headChecks (value .heads .counts) h) ≡ firstOf (kindConditions L (kind.Head h) ns)
   head-first L shape headed ns = agree-first (head-checks-agree L shape (value .heads) headed h ns)
 
-  pub head-refused : (n : ℕ) → n ≡ firstOf (headChecks (value .heads .counts) h) → (n ≡ 0 → ⊥) → StartsDraft value h (refusedWith n value)
-  head-refused n e ne =
-      λ rows killers slots ns. promise-refused (stateOf value rows killers slots) (kind.Head h) ns n ne
-      (λ L shape is. e ∙ head-first L shape (is .stored .headed) ns)
-
-  pub head-accepted : 0 ≡ firstOf (headChecks (value .heads .counts) h) → StartsDraft value h (acceptedWith 0 0 0 (withDraft value (draftOf h)))
-  head-accepted e =
-      λ rows killers slots ns. promise-accepted (stateOf value rows killers slots) (kind.Head h) ns (stateOf (withDraft value (draftOf h)) rows killers slots) quiet
-      (λ L shape is.
-      let first = e ∙ head-first L shape (is .stored .headed) ns in
-      let good = none-holds (kindConditions L (kind.Head h) ns) tt (sym first) in
-      let held = head-held h (arity-most (h .arity) (good refused.badArity)) (good refused.spareField) in
-      (first, record { struck = refl; reopened = refl; own = refl }, record { stored = is .stored; drafted = record { number = refl; rule = held } }))
+  pub head-right : {r : Redrafted} → Redraws (headChecks (value .heads .counts) h) (value .draft) (draftOf h) r → RedraftRight value (kind.Head h) r
+  head-right {r} given =
+      record {
+        number = λ L shape headed drafted ns. given .number ∙ head-first L shape headed ns;
+        drafted = λ z L shape headed drafted ns.
+            let good = none-holds (kindConditions L (kind.Head h) ns) tt (sym (head-first L shape headed ns) ∙ sym (given .number) ∙ z) in
+            let held = head-held h (arity-most (h .arity) (good refused.badArity)) (good refused.spareField) in
+            rw (new-left given z) (record { number = refl; rule = held });
+        board = λ L ns. refl;
+        report = λ before after. record { struck = refl; reopened = refl; own = refl };
+      }
 
 -- KIND 3: four slots written at a place are read there, and the other bytes stay
 module _ (l : List ℕ) (at : ℕ) (w : Row) where
@@ -190,19 +168,16 @@ module _ (value : Value) (w : Row) where
       → firstOf (addRowChecks (value .heads .counts) (value .draft .rule) w) ≡ firstOf (kindConditions L (kind.Row w) ns)
   row-first L shape headed drafted ns = agree-first (row-checks-agree L shape (value .heads) headed (value .draft .rule) (drafted .rule) w ns)
 
-  pub row-refused : (n : ℕ) → n ≡ firstOf (addRowChecks (value .heads .counts) (value .draft .rule) w) → (n ≡ 0 → ⊥) → AddsRow value w (refusedWith n value)
-  row-refused n e ne =
-      λ rows killers slots ns. promise-refused (stateOf value rows killers slots) (kind.Row w) ns n ne
-      (λ L shape is. e ∙ row-first L shape (is .stored .headed) (is .drafted) ns)
-
-  pub row-accepted : 0 ≡ firstOf (addRowChecks (value .heads .counts) (value .draft .rule) w)
-      → AddsRow value w (acceptedWith 0 0 0 (withDraft value (withRow (value .draft) w)))
-  row-accepted e =
-      λ rows killers slots ns. promise-accepted (stateOf value rows killers slots) (kind.Row w) ns (stateOf (withDraft value (withRow (value .draft) w)) rows killers slots) quiet
-      (λ L shape is.
-      let first = e ∙ row-first L shape (is .stored .headed) (is .drafted) ns in
-      let good = none-holds (kindConditions L (kind.Row w) ns) tt (sym first) in
-      let r = draftOr (L .draft) .rule in
-      let room = leb-false 64 (length (r .rows)) (good refused.draftFull) in
-      let held = longer-held r (value .draft .rule) w (is .drafted .rule) (draft-limits L shape .columns) room (good refused.spareField) in
-      (first, record { struck = refl; reopened = refl; own = refl }, record { stored = is .stored; drafted = record { number = is .drafted .number; rule = held } }))
+  pub row-right : {r : Redrafted} → Redraws (addRowChecks (value .heads .counts) (value .draft .rule) w) (value .draft) (withRow (value .draft) w) r
+      → RedraftRight value (kind.Row w) r
+  row-right {r} given =
+      record {
+        number = λ L shape headed drafted ns. given .number ∙ row-first L shape headed drafted ns;
+        drafted = λ z L shape headed drafted ns.
+            let good = none-holds (kindConditions L (kind.Row w) ns) tt (sym (row-first L shape headed drafted ns) ∙ sym (given .number) ∙ z) in
+            let room = leb-false 64 (length (draftOr (L .draft) .rule .rows)) (good refused.draftFull) in
+            let held = longer-held (draftOr (L .draft) .rule) (value .draft .rule) w (drafted .rule) (draft-limits L shape .columns) room (good refused.spareField) in
+            rw (new-left given z) (record { number = drafted .number; rule = held });
+        board = λ L ns. refl;
+        report = λ before after. record { struck = refl; reopened = refl; own = refl };
+      }

@@ -35,6 +35,12 @@ enum-known-command-3 c = search needs
 retract-requires : tie.Need-retract-requires
 retract-requires c κs = search needs
 
+enum-known-command-4 : tie.Need-enum-known-command-4
+enum-known-command-4 c = search needs
+
+draft-gap-requires : tie.Need-draft-gap-requires
+draft-gap-requires c κs = search needs
+
 same-length : tie.Need-same-length
 same-length c = search needs
 
@@ -83,6 +89,9 @@ returns-5 c =
     let called = c .before .before .before .before .before .before in
     other-obeys (called .before .before .before .before .before .command3 .given .1) (omega arith) (called .retract .ensures _)
 
+returns-6 : tie.Need-returns-6
+returns-6 c = other-obeys (c .before .before .command4 .given .1) (omega arith) (c .draft-gap .ensures _ _ _ _)
+
 pub obey-spec : {M : Type 1} → statement M
 obey-spec =
     tie.close
@@ -97,6 +106,8 @@ obey-spec =
     post-requires
     enum-known-command-3
     retract-requires
+    enum-known-command-4
+    draft-gap-requires
     same-length
     same-length-2
     same-length-3
@@ -110,4 +121,5 @@ obey-spec =
     same-length-7
     same-length-8
     same-length-9
-    returns-5)
+    returns-5
+    returns-6)

@@ -1,5 +1,5 @@
 -- LAWS OF THE PAIRS THAT PASS A TEST, for any test: each row of them is a pair that passes, each pair that passes is a row, and they rise, so that no two are the
--- same. Then of the rows of a form. Assumes nothing.
+-- same. Then of the rows of a form, and of the rule. Assumes nothing.
 use mathlib.Core.Path.{_≡_, refl, ap, _∙_}
 use mathlib.Core.Bool.{Bool, true, false, cond}
 use mathlib.Core.List.{List, [], _∷_, _++_, append-nil}
@@ -10,8 +10,10 @@ use native.Mathlib.Omega.{arith}
 use lib.ListN.{length, getD, length-append, List·getD-append}
 use lib.Seq.{getD-append-seam}
 use lib.Dec.{T, ltb, ltb→lt, lt→ltb}
+use Rattle.model.specs.declared.command.GapRule.{GapRule}
+use Rattle.model.specs.Board.{Rule, callAt, slotAt, GoodRule}
 use Rattle.model.specs.Tests.{countBelow}
-use Rattle.model.specs.Gaps.{fits?, pairOf, pairsTo, pairTest, rowsOfGap}
+use Rattle.model.specs.Gaps.{fits?, pairOf, pairsTo, pairTest, rowsOfGap, ruleOfGap}
 use Rattle.model.specs.Laws.Tests.{and→, →and}
 
 -- a list with one more at the end, if a test passes: its members are the old ones and that one
@@ -140,3 +142,40 @@ row-gap form gap n m a b la lb few t =
     rw (q, r) at
     (passed-row (32 * n) (pairTest form gap m) (32 * a + b) (omega arith)
     (rw (q, r) (→and (ltb b m) (fits? form gap a b) (lt→ltb b m lb) t)))
+
+-- SO THE RULE IS ONE THAT A BOARD COULD HAVE, where its calls are two of the board's and there is room for its rows
+module _ (counts : List ℕ) (f : GapRule) (first-on : f .first < length counts) (second-on : f .second < length counts) (differ : f .first ≢ f .second) where
+  abbrev rule : Rule
+  rule = ruleOfGap counts f
+
+  row-at : (w : ℕ) → w < length (rule .rows) → GapRow (f .form) (f .gap) (getD counts (f .first) 0) (getD counts (f .second) 0) (getD (rule .rows) w [])
+  row-at w h = gap-row (f .form) (f .gap) (getD counts (f .first) 0) (getD counts (f .second) 0) w h
+
+  on : (k : ℕ) → k < 2 → callAt rule k < length counts
+  on zero h = first-on
+  on (suc zero) h = second-on
+  on (suc (suc k)) h = absurd (omega arith)
+
+  columns-differ : (j k : ℕ) → j < k → k < 2 → callAt rule j ≢ callAt rule k
+  columns-differ zero (suc zero) h l = differ
+  columns-differ zero (suc (suc k)) h l = absurd (omega arith)
+  columns-differ (suc j) k h l = absurd (omega arith)
+  columns-differ zero zero h l = absurd (omega arith)
+
+  on-call : (w k : ℕ) → w < length (rule .rows) → k < 2 → slotAt rule w k < getD counts (callAt rule k) 0
+  on-call w zero h l = let row = row-at w h in rw (row .is) (row .first-on)
+  on-call w (suc zero) h l = let row = row-at w h in rw (row .is) (row .second-on)
+  on-call w (suc (suc k)) h l = absurd (omega arith)
+
+  pub gap-good : length (rule .rows) ≤ 64 → GoodRule counts rule
+  gap-good few =
+      record {
+        most = omega arith;
+        least = omega arith;
+        scope = on;
+        apart = columns-differ;
+        few = few;
+        width = λ w h. ap length (row-at w h .is);
+        slots = on-call;
+        rows = rows-apart (32 * getD counts (f .first) 0) (pairTest (f .form) (f .gap) (getD counts (f .second) 0));
+      }

@@ -1,5 +1,4 @@
--- A GAP RULE CAN BE SENT ONE BY ONE: its head by kind 2 and its rows by kind 3, none of which is refused, leave the rule as the draft. So it is a rule that the
--- board could have, since every command keeps the ledger's shape. Assumes nothing.
+-- A GAP RULE CAN BE SENT ONE BY ONE: its head by kind 2 and its rows by kind 3, none of which is refused, leave what kind 6 leaves. Assumes nothing.
 use mathlib.Core.Path.{_≡_, refl, sym, ap, subst, _∙_}
 use mathlib.Core.Bool.{Bool, false}
 use mathlib.Core.List.{List, [], _∷_, _++_, map, append-nil, append-assoc}
@@ -9,17 +8,23 @@ use Prim.Native.Nat.{ℕ, _*_, _<_, _≤_}
 use native.Mathlib.Omega.{arith}
 use lib.ListN.{length, getD, length-append, List·getD-append}
 use lib.Seq.{getD-append-seam}
-use lib.Dec.{T, eqb, leb, eqb→eq}
-use borrow.Author.Tests.{lt-leb}
+use lib.Dec.{T, eqb, ltb, leb, eqb→eq}
+use borrow.Author.Tests.{lt-leb, ltb-false}
 use Rattle.model.specs.declared.command.GapRule.{GapRule}
-use Rattle.model.specs.Board.{GoodRule}
+use Rattle.model.specs.declared.command.Command.the-variants as kind
+use Rattle.model.specs.declared.command.Read.{Read}
+use Rattle.model.specs.declared.command.Read.the-variants as found
 use Rattle.model.specs.Tests.{some?, every?}
-use Rattle.model.specs.Ledger.{Ledger, LedgerShape, Member, noBoard?, badNumber?, step, run, lengths, member}
+use Rattle.model.specs.Commands.{readAt}
+use Rattle.model.specs.Ledger.{Ledger, Member, noBoard?, badNumber?, lentConditions, kindConditions, formConditions, ownConditions, refusal, readEffect, obey, step, run, lengths, member}
 use Rattle.model.specs.Gaps.{pairTest, ruleOfGap}
 use Rattle.model.specs.Samples.{headBytes, rowBytes}
-use Rattle.model.specs.Laws.Tests.{not→, some→, every→}
-use Rattle.model.specs.Laws.Shapes.{shape-run}
+use Rattle.model.specs.Laws.Tests.{or-false, not→, some→, every→}
+use Rattle.model.specs.Laws.Refusals.{none-holds, rest-passes}
 use Rattle.model.specs.Laws.Gaps.{GapRow, gap-row, rows-apart}
+use Rattle.layout.specs.Sizes.{CommandLent}
+use Rattle.model.specs.Refusals.{firstOf}
+use Rattle.model.specs.Numbers as refused
 
 -- WHAT IS ASKED of the form by the board: what kind 2 asks of its head, and room for its rows
 pub record Sendable (L : Ledger) (f : GapRule) : Type 0 where
@@ -101,10 +106,12 @@ module _ (L : Ledger) (f : GapRule) where
       ∙ rows-sent there (done ++ (x ∷ [])) rest (subst (λ (l : List (List ℕ)). SendableRows l) (sym (append-assoc done (x ∷ []) rest)) rows)
       ∙ ap headed-with (append-assoc done (x ∷ []) rest)
 
-  -- so the head and then the rows leave the form's rule as the draft
-  pub sent-one-by-one : Sendable L f
-      → run L (member (headBytes (f .number) (f .first ∷ f .second ∷ [])) ∷ map sent (ruleOfGap (L .board .counts) f .rows))
-      ≡ headed-with (ruleOfGap (L .board .counts) f .rows)
+  -- THE COMMANDS ONE BY ONE: the head and then the rows
+  abbrev pub oneByOne : List Member
+  oneByOne = member (headBytes (f .number) (f .first ∷ f .second ∷ [])) ∷ map sent (ruleOfGap (L .board .counts) f .rows)
+
+  -- they leave the form's rule as the draft
+  sent-one-by-one : Sendable L f → run L oneByOne ≡ headed-with (ruleOfGap (L .board .counts) f .rows)
   sent-one-by-one s =
       let all = ruleOfGap (L .board .counts) f .rows in
       ap (λ (K : Ledger). run K (map sent all)) (head-sent s)
@@ -115,6 +122,33 @@ module _ (L : Ledger) (f : GapRule) where
         few = s .few;
       })
 
-  -- and it is one that the board could have
-  pub gap-good : LedgerShape L → Sendable L f → (f .number < 64) × GoodRule (L .board .counts) (ruleOfGap (L .board .counts) f)
-  gap-good shape s = subst LedgerShape (sent-one-by-one s) (shape-run L (member (headBytes (f .number) (f .first ∷ f .second ∷ [])) ∷ map sent (ruleOfGap (L .board .counts) f .rows)) shape) .draft _ refl
+  -- and kind 6 asks no less than they do
+  allowed-sendable : (ns : List ℕ) → firstOf (kindConditions L (kind.Gap f) ns) ≡ 0 → Sendable L f
+  allowed-sendable ns e =
+      let good = none-holds (kindConditions L (kind.Gap f) ns) tt e in
+      let on = or-false (leb (length (L .board .counts)) (f .first)) (leb (length (L .board .counts)) (f .second)) (good refused.callOffBoard) in
+      record {
+        board = good refused.noBoard;
+        number = good refused.badNumber;
+        first-on = on .0;
+        second-on = on .1;
+        apart = good refused.callTwice;
+        few = ltb-false 64 (length (ruleOfGap (L .board .counts) f .rows)) (good refused.tooManyPairs);
+      }
+
+  -- WHERE KIND 6 IS ACCEPTED, whatever it is read from, the ledger after it is the one after the head and the rows
+  pub gap-one-by-one : (lent : CommandLent) (bytes : List ℕ) → readAt bytes 0 .read ≡ found.Command (kind.Gap f) → refusal L lent bytes ≡ 0
+      → step L lent bytes ≡ run L oneByOne
+  gap-one-by-one lent bytes is accepted =
+      ap (λ (n : ℕ). obey n L (readAt bytes 0 .read) ns) accepted
+      ∙ ap (λ (r : Read). readEffect L r ns) is
+      ∙ sym (sent-one-by-one (allowed-sendable ns (rest-passes (early (found.Command (kind.Gap f))) (kindConditions L (kind.Gap f) ns) tt own)))
+    where
+      ns : List ℕ
+      ns = readAt bytes 0 .counts
+
+      early : Read → List (Bool × ℕ)
+      early r = lentConditions lent ++ formConditions r (ltb (readAt bytes 0 .next) (length bytes))
+
+      own : firstOf (early (found.Command (kind.Gap f)) ++ kindConditions L (kind.Gap f) ns) ≡ 0
+      own = ap (λ (r : Read). firstOf (early r ++ ownConditions L r ns)) (sym is) ∙ accepted

@@ -14,6 +14,7 @@ use lib.Dec.{eqb, ltb, leb}
 use borrow.Author.Tests.{ltb-false, leb-false, eqb-true, eqb-false, eq-eqb, not-false}
 use Rattle.model.specs.declared.command.Head.{Head}
 use Rattle.model.specs.declared.command.Row.{Row}
+use Rattle.model.specs.declared.command.GapRule.{GapRule}
 use Rattle.model.specs.declared.command.Command.{Command}
 use Rattle.model.specs.declared.command.Command.the-variants as kind
 use Rattle.model.specs.declared.command.Read.{Read}
@@ -22,6 +23,8 @@ use Rattle.model.specs.Board.{Rule, Board, callAt, slotAt, InForce, Good
 use Rattle.model.specs.Tests.{some?, every?, isNone}
 use Rattle.model.specs.Commands.{isKind, bodySize, commandAt, without, readAt, scopeOf, slotsOf}
 use Rattle.model.specs.Ledger.{NumberedRule, Ledger, LedgerShape, Member, bare, fresh, draftOr, lentConditions, kindConditions, formConditions, ownConditions, refusal, upToZero, withRule, effect, obey, step, run, lengths}
+use Rattle.model.specs.Gaps.{ruleOfGap}
+use Rattle.model.specs.Laws.Gaps.{gap-good}
 use Rattle.model.specs.Laws.Tests.{or-false, none-passes, →every, T→, →T, none-some}
 use Rattle.layout.specs.Sizes.{Lent, CommandLent, badLent?, badTable?, killersLength, rowsLength, slotsLength, recordsLength}
 use Rattle.tables.specs.Laws.Facts.{true-false}
@@ -216,6 +219,19 @@ module _ (L : Ledger) (shape : LedgerShape L) where
       go (some d) e i =
           record { board = shape .board; draft = λ d′ h. let g : grown (some d) ≡ d′ = cc in rw (← g) (shape .draft d e .0, row-good d x ns e good) }
 
+  gap-shape : (f : GapRule) (ns : List ℕ) → Allowed L (kind.Gap f) ns → LedgerShape (effect L (kind.Gap f) ns)
+  gap-shape f ns good =
+      let counts = L .board .counts in
+      let on = or-false (leb (length counts) (f .first)) (leb (length counts) (f .second)) (good refused.callOffBoard) in
+      let rule = gap-good counts f (leb-false (length counts) (f .first) (on .0)) (leb-false (length counts) (f .second) (on .1))
+      (eqb-false (f .first) (f .second) (good refused.callTwice)) (ltb-false 64 (length (ruleOfGap counts f .rows)) (good refused.tooManyPairs)) in
+      record {
+        board = shape .board;
+        draft = λ d e.
+            let g : record { number = f .number; rule = ruleOfGap counts f } ≡ d = cc in
+            rw (← g) (omega (arith, ltb-false 63 (f .number) (good refused.badNumber)), rule);
+      }
+
   -- a command that none of its own conditions refuses
   pub effect-shape : (c : Command) (ns : List ℕ) → length ns ≤ 32 → firstOf (kindConditions L c ns) ≡ 0 → LedgerShape (effect L c ns)
   effect-shape kind.Board ns most e = board-shape ns most (none-holds (kindConditions L kind.Board ns) tt e)
@@ -223,6 +239,7 @@ module _ (L : Ledger) (shape : LedgerShape L) where
   effect-shape (kind.Row x) ns most e = row-shape x ns (none-holds (kindConditions L (kind.Row x) ns) tt e)
   effect-shape kind.Post ns most e = post-shape ns (none-holds (kindConditions L kind.Post ns) tt e)
   effect-shape (kind.Retract n) ns most e = retract-shape n ns (none-holds (kindConditions L (kind.Retract n) ns) tt e)
+  effect-shape (kind.Gap f) ns most e = gap-shape f ns (none-holds (kindConditions L (kind.Gap f) ns) tt e)
 
 -- the counts beside what is read are never more than 32
 pub counts-most : (s : List ℕ) (at : ℕ) → length (readAt s at .counts) ≤ 32

@@ -51,6 +51,7 @@ module _ (before after : State) (q : Report) where
   one-none (kind.Row w) r = inl (r .struck)
   one-none kind.Post r = inr (r .own .none-reopened)
   one-none (kind.Retract n) r = inl (r .own .none-struck)
+  one-none (kind.Gap f) r = inl (r .struck)
 
   reported-short : (c : Command) → Reports c before after q → ShortAnswer (answer.Accepted q)
   reported-short c r =
@@ -67,6 +68,7 @@ counts-stay L (kind.Head h) ns e = absurd (true≢false (sym e))
 counts-stay L (kind.Row w) ns e = absurd (true≢false (sym e))
 counts-stay L kind.Post ns e = refl
 counts-stay L (kind.Retract n) ns e = refl
+counts-stay L (kind.Gap f) ns e = absurd (true≢false (sym e))
 
 module _ (L : Ledger) (s s′ : State) (ns : List ℕ) (rep : Represents L s) (q : Report) where
   reported-same : (c : Command) → Represents (effect L c ns) s′ → Reports c s s′ q

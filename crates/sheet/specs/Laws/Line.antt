@@ -41,6 +41,7 @@ kind-digit (kind.Head h) = omega arith
 kind-digit (kind.Row w) = omega arith
 kind-digit kind.Post = omega arith
 kind-digit (kind.Retract n) = omega arith
+kind-digit (kind.Gap f) = omega arith
 
 module _ (c : Command) {given : Answer} {q : Report} {kind k : ℕ} (is : given ≡ answer.Accepted q) (short : ShortAnswer given) (wide : Wide kind k) (same : kind ≡ kindOf c) where
   accepted-short : ShortAnswer (answer.Accepted q)

@@ -1,5 +1,5 @@
 -- What is refused, and when, is the check's; else the draft is the head's.
-use Rattle.command_draft.specs.Laws.Drafts.{redraws-old, redraws-new}
+use Rattle.command_draft.specs.Laws.Redraft.{redraws-old, redraws-new}
 use borrow.Author.Needs.{needs}
 use Rattle.command_draft.proofs.head.redraft.Statement.{statement}
 use Rattle.command_draft.proofs.head.redraft.Tie as tie

@@ -1,6 +1,6 @@
--- What is refused, and when, is the check's; the draft that is started is the stepped ledger's.
-use mathlib.Core.Path.{sym, _∙_}
-use Rattle.command_draft.specs.Laws.Drafts.{new-left, head-refused, head-accepted}
+-- What is given back of the draft is right on every ledger.
+use Rattle.command_draft.specs.Laws.Redraft.{redraft-promise}
+use Rattle.command_draft.specs.Laws.Drafts.{head-right}
 use borrow.Author.Needs.{needs}
 use Rattle.command_draft.proofs.head.start_draft.Statement.{statement}
 use Rattle.command_draft.proofs.head.start_draft.Tie as tie
@@ -8,34 +8,11 @@ use Rattle.command_draft.proofs.head.start_draft.Tie as tie
 redraft-requires : tie.Need-redraft-requires
 redraft-requires c κs = search needs
 
-refused-requires : tie.Need-refused-requires
-refused-requires c κs = search needs
+outcome-of-requires : tie.Need-outcome-of-requires
+outcome-of-requires c κs = search needs
 
 returns : tie.Need-returns
-returns c =
-    let tested = c .before in
-    rw (c .refused .ensures) (head-refused _ _ _ (tested .before .before .redraft .ensures .number) (tested .if1 .taken))
-
-with-draft-requires : tie.Need-with-draft-requires
-with-draft-requires c κs = search needs
-
-accepted-requires : tie.Need-accepted-requires
-accepted-requires c κs = search needs
-
-returns-2 : tie.Need-returns-2
-returns-2 c =
-    let placed = c .before in
-    let tested = placed .before in
-    let given = tested .before .before .redraft .ensures in
-    rw (c .accepted .ensures, placed .with-draft .ensures, new-left given (tested .if1 .left)) (head-accepted _ _ (sym (tested .if1 .left) ∙ given .number))
+returns c = rw (c .outcome-of .ensures) (redraft-promise (head-right _ _ (c .before .redraft .ensures)))
 
 pub start-draft-spec : {M : Type 1} → statement M
-start-draft-spec =
-    tie.close
-    (tie.spec
-    redraft-requires
-    refused-requires
-    returns
-    with-draft-requires
-    accepted-requires
-    returns-2)
+start-draft-spec = tie.close (tie.spec redraft-requires outcome-of-requires returns)

@@ -1,5 +1,5 @@
 -- What is refused, and when, is the check's; else the draft has the row.
-use Rattle.command_draft.specs.Laws.Drafts.{redraws-old, redraws-new}
+use Rattle.command_draft.specs.Laws.Redraft.{redraws-old, redraws-new}
 use borrow.Author.Needs.{needs}
 use Rattle.command_draft.proofs.row.redraft.Statement.{statement}
 use Rattle.command_draft.proofs.row.redraft.Tie as tie
