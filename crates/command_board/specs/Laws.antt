@@ -1,4 +1,3 @@
 -- The theorems over the definitions.
 pub mod Made
-pub mod Fill
 pub mod Counts

@@ -5,4 +5,5 @@ pub mod Bounds
 pub mod Value
 pub mod Summary
 pub mod Memory
+pub mod Marks
 pub mod Laws

@@ -3,3 +3,4 @@
 pub mod value; // the value beside the buffers, and the buffers' lengths
 pub mod places; // where bytes lie, and caps
 pub mod summary; // the summary table: its records and its length
+pub mod marks; // the marks: their lengths, and what is held of them by value

@@ -14,8 +14,10 @@ pub mod Answers
 pub mod Promised
 pub mod Lists
 pub mod Samples
+pub mod Counts
 pub mod Reports
 pub mod Summary
+pub mod Marks
 pub mod Masks
 pub mod WrongBoards
 pub mod Entry

@@ -25,21 +25,32 @@ pub record NumberedRule : Type 0 where
   pub number : ℕ
   pub rule : Rule
 
--- slot counts and rules by number, which are a board, and a draft; `fresh`, below, has none of them
+-- slot counts and rules by number, which are a board, a draft, and the boards that are kept under the names 0 and 1 (order 4; no command keeps one yet); `fresh`, below,
+-- has none of them
 pub record Ledger : Type 0 where
   pub board : Board
   pub draft : Option NumberedRule
+  pub marks : List (Option Board)
 
 abbrev pub bare : List ℕ → Board
 bare counts = record { counts = counts; rules = replicate 64 none }
 
-abbrev pub fresh : Ledger
-fresh = record { board = bare []; draft = none }
+abbrev pub noneKept : List (Option Board)
+noneKept = none ∷ none ∷ []
 
--- the board's shape, and the draft's: a number 0 to 63 and a rule that the board could have
+abbrev pub fresh : Ledger
+fresh = record { board = bare []; draft = none; marks = noneKept }
+
+-- the board that is kept under a name
+abbrev pub keptUnder : Ledger → ℕ → Option Board
+keptUnder L name = getD (L .marks) name none
+
+-- the board's shape, and the draft's: a number 0 to 63 and a rule that the board could have. A kept board has the calls and counts of the board
 pub record LedgerShape (L : Ledger) : Type 0 where
   pub board : Shape (L .board)
   pub draft : (d : NumberedRule) → L .draft ≡ some d → (d .number < 64) × GoodRule (L .board .counts) (d .rule)
+  pub names : length (L .marks) ≡ 2
+  pub marks : (name : ℕ) (B : Board) → keptUnder L name ≡ some B → Shape B × (B .counts ≡ L .board .counts)
 
 -- the draft; the empty rule under number 255 where there is none
 abbrev pub draftOr : Option NumberedRule → NumberedRule
@@ -148,19 +159,20 @@ withRule B p r = record { counts = B .counts; rules = set (B .rules) p r }
 -- WHAT AN ACCEPTED COMMAND DOES (SCOPE 6.7): kind 1 leaves nothing but its counts, kind 2 begins a draft, kind 3 lengthens it by a row, kind 4 makes it a rule
 -- in force, kind 5 takes such a rule away; kind 6 begins a draft with all the rows of a gap rule
 abbrev pub effect : Ledger → Command → List ℕ → Ledger
-effect L kind.Board ns = record { board = bare (upToZero ns); draft = none }
+effect L kind.Board ns = record { board = bare (upToZero ns); draft = none; marks = noneKept }
 effect L (kind.Head h) ns =
-    record { board = L .board; draft = some (record { number = h .number; rule = record { scope = take (h .arity) (scopeOf h); rows = [] } }) }
+    record { board = L .board; draft = some (record { number = h .number; rule = record { scope = take (h .arity) (scopeOf h); rows = [] } }); marks = L .marks }
 effect L (kind.Row w) ns =
     let d = draftOr (L .draft) in
     let r = d .rule in
     record {
       board = L .board;
       draft = some (record { number = d .number; rule = record { scope = r .scope; rows = r .rows ++ (take (length (r .scope)) (slotsOf w) ∷ []) } });
+      marks = L .marks;
     }
-effect L kind.Post ns = let d = draftOr (L .draft) in record { board = withRule (L .board) (d .number) (some (d .rule)); draft = none }
-effect L (kind.Retract n) ns = record { board = withRule (L .board) n none; draft = L .draft }
-effect L (kind.Gap f) ns = record { board = L .board; draft = some (record { number = f .number; rule = ruleOfGap (L .board .counts) f }) }
+effect L kind.Post ns = let d = draftOr (L .draft) in record { board = withRule (L .board) (d .number) (some (d .rule)); draft = none; marks = L .marks }
+effect L (kind.Retract n) ns = record { board = withRule (L .board) n none; draft = L .draft; marks = L .marks }
+effect L (kind.Gap f) ns = record { board = L .board; draft = some (record { number = f .number; rule = ruleOfGap (L .board .counts) f }); marks = L .marks }
 
 abbrev pub readEffect : Ledger → Read → List ℕ → Ledger
 readEffect L (found.Command c) ns = effect L c ns

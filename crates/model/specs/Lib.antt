@@ -12,6 +12,7 @@ pub mod Filter
 pub mod Report
 pub mod Representation
 pub mod Summary
+pub mod Marks
 pub mod Promise
 pub mod Questions
 pub mod Sheet

@@ -1,5 +1,4 @@
 -- The theorems over the definitions.
-pub mod Counts
 pub mod Rules
 pub mod Records
 pub mod Counted

@@ -76,7 +76,7 @@ module _ (before : State) (ns : List ℕ) where
       where
         go : (o : Option NumberedRule) → Drafted o (before .value .draft)
             → ((d : NumberedRule) → o ≡ some d → (d .number < 64) × GoodRule (L .board .counts) (d .rule)) → isNone o ≡ false → not (notInForce? L (draftOr o .number)) ≡ false
-            → Represents (record { board = withRule (L .board) (draftOr o .number) (some (draftOr o .rule)); draft = none }) after
+            → Represents (record { board = withRule (L .board) (draftOr o .number) (some (draftOr o .rule)); draft = none; marks = L .marks }) after
         go none drafted good some-draft free = absurd (true≢false some-draft)
         go (some d) drafted good some-draft free =
             let g = good d refl in

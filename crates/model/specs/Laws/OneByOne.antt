@@ -42,7 +42,7 @@ sent row = member (rowBytes row)
 module _ (L : Ledger) (f : GapRule) where
   -- the ledger with the form's head and these rows as its draft
   abbrev pub headed-with : List (List ℕ) → Ledger
-  headed-with rows = record { board = L .board; draft = some (record { number = f .number; rule = record { scope = f .first ∷ f .second ∷ []; rows = rows } }) }
+  headed-with rows = record { board = L .board; draft = some (record { number = f .number; rule = record { scope = f .first ∷ f .second ∷ []; rows = rows } }); marks = L .marks }
 
   abbrev n : ℕ
   n = getD (L .board .counts) (f .first) 0

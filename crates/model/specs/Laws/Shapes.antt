@@ -22,7 +22,7 @@ use Rattle.model.specs.declared.command.Read.the-variants as found
 use Rattle.model.specs.Board.{Rule, Board, callAt, slotAt, InForce, GoodRule, Shape}
 use Rattle.model.specs.Tests.{some?, every?, isNone}
 use Rattle.model.specs.Commands.{isKind, bodySize, commandAt, without, readAt, scopeOf, slotsOf}
-use Rattle.model.specs.Ledger.{NumberedRule, Ledger, LedgerShape, Member, bare, fresh, draftOr, lentConditions, kindConditions, formConditions, ownConditions, refusal, upToZero, withRule, effect, obey, step, run, lengths}
+use Rattle.model.specs.Ledger.{NumberedRule, Ledger, LedgerShape, Member, bare, noneKept, fresh, draftOr, lentConditions, kindConditions, formConditions, ownConditions, refusal, upToZero, withRule, effect, obey, step, run, lengths}
 use Rattle.model.specs.Gaps.{ruleOfGap}
 use Rattle.model.specs.Laws.Gaps.{gap-good}
 use Rattle.model.specs.Laws.Tests.{or-false, none-passes, →every, T→, →T, none-some}
@@ -106,6 +106,12 @@ in-limits (zero ∷ ns) g c h = absurd (omega arith)
 in-limits (suc n ∷ ns) g zero h = (omega arith, g 0 (omega arith))
 in-limits (suc n ∷ ns) g (suc c) h = in-limits ns (λ i k. g (suc i) (omega arith)) c (le-of-suc-le-suc h)
 
+-- no board is kept
+none-marked : (counts : List ℕ) (name : ℕ) (B : Board) → _≡_ {A = Option Board} (getD noneKept name none) (some B) → Shape B × (B .counts ≡ counts)
+none-marked counts zero B e = none-some e
+none-marked counts (suc zero) B e = none-some e
+none-marked counts (suc (suc name)) B e = none-some e
+
 -- none of a kind's conditions holds, whatever its number
 abbrev Allowed : Ledger → Command → List ℕ → Type 0
 Allowed L c ns = (n : ℕ) → conditionOf n (kindConditions L c ns) ≡ false
@@ -117,19 +123,23 @@ module _ (L : Ledger) (shape : LedgerShape L) where
       record {
         board = shape-with (L .board) n none (shape .board) (omega (arith, ltb-false 63 n (good refused.badNumber))) (λ r e. none-some e);
         draft = shape .draft;
+        names = shape .names;
+        marks = shape .marks;
       }
 
   post-shape : (ns : List ℕ) → Allowed L kind.Post ns → LedgerShape (effect L kind.Post ns)
   post-shape ns good = go (L .draft) refl (good refused.noDraft)
     where
       go : (o : Option NumberedRule) → L .draft ≡ o → isNone o ≡ false
-          → LedgerShape (record { board = withRule (L .board) (draftOr o .number) (some (draftOr o .rule)); draft = none })
+          → LedgerShape (record { board = withRule (L .board) (draftOr o .number) (some (draftOr o .rule)); draft = none; marks = L .marks })
       go none e i = absurd (true≢false i)
       go (some d) e i =
           let g = shape .draft d e in
           record {
             board = shape-with (L .board) (d .number) (some (d .rule)) (shape .board) (g .0) (λ r h. let z : d .rule ≡ r = cc in rw z at (g .1));
             draft = λ x h. none-some h;
+            names = shape .names;
+            marks = shape .marks;
           }
 
   board-shape : (ns : List ℕ) → length ns ≤ 32 → Allowed L kind.Board ns → LedgerShape (effect L kind.Board ns)
@@ -141,6 +151,8 @@ module _ (L : Ledger) (shape : LedgerShape L) where
         board = bare-shape (upToZero ns) (omega (arith, short ns))
             (in-limits ns (λ i h. ltb-false 32 (getD ns i 0) (none-passes (length ns) (λ i. ltb 32 (getD ns i 0)) f i h)));
         draft = λ d h. none-some h;
+        names = refl;
+        marks = none-marked (upToZero ns);
       }
 
   head-good : (h : Head) (ns : List ℕ) → Allowed L (kind.Head h) ns → GoodRule (L .board .counts) (record { scope = take (h .arity) (scopeOf h); rows = [] })
@@ -176,6 +188,8 @@ module _ (L : Ledger) (shape : LedgerShape L) where
         draft = λ d e.
             let g : record { number = h .number; rule = record { scope = take (h .arity) (scopeOf h); rows = [] } } ≡ d = cc in
             rw (← g) (omega (arith, ltb-false 63 (h .number) (good refused.badNumber)), head-good h ns good);
+        names = shape .names;
+        marks = shape .marks;
       }
 
   -- a draft with one row more
@@ -214,10 +228,10 @@ module _ (L : Ledger) (shape : LedgerShape L) where
       grown : Option NumberedRule → NumberedRule
       grown o = record { number = draftOr o .number; rule = record { scope = draftOr o .rule .scope; rows = draftOr o .rule .rows ++ (take (length (draftOr o .rule .scope)) (slotsOf x) ∷ []) } }
 
-      go : (o : Option NumberedRule) → L .draft ≡ o → isNone o ≡ false → LedgerShape (record { board = L .board; draft = some (grown o) })
+      go : (o : Option NumberedRule) → L .draft ≡ o → isNone o ≡ false → LedgerShape (record { board = L .board; draft = some (grown o); marks = L .marks })
       go none e i = absurd (true≢false i)
       go (some d) e i =
-          record { board = shape .board; draft = λ d′ h. let g : grown (some d) ≡ d′ = cc in rw (← g) (shape .draft d e .0, row-good d x ns e good) }
+          record { board = shape .board; draft = λ d′ h. let g : grown (some d) ≡ d′ = cc in rw (← g) (shape .draft d e .0, row-good d x ns e good); names = shape .names; marks = shape .marks }
 
   gap-shape : (f : GapRule) (ns : List ℕ) → Allowed L (kind.Gap f) ns → LedgerShape (effect L (kind.Gap f) ns)
   gap-shape f ns good =
@@ -230,6 +244,8 @@ module _ (L : Ledger) (shape : LedgerShape L) where
         draft = λ d e.
             let g : record { number = f .number; rule = ruleOfGap counts f } ≡ d = cc in
             rw (← g) (omega (arith, ltb-false 63 (f .number) (good refused.badNumber)), rule);
+        names = shape .names;
+        marks = shape .marks;
       }
 
   -- a command that none of its own conditions refuses
@@ -282,7 +298,7 @@ shape-step L lent bytes shape = go (readAt bytes 0 .read) (counts-most bytes 0) 
     go found.End most (suc n) e = shape
 
 pub shape-fresh : LedgerShape fresh
-shape-fresh = record { board = bare-shape [] (omega arith) (λ c h. absurd (omega arith)); draft = λ d h. none-some h }
+shape-fresh = record { board = bare-shape [] (omega arith) (λ c h. absurd (omega arith)); draft = λ d h. none-some h; names = refl; marks = none-marked [] }
 
 -- and every list of them
 pub shape-run : (L : Ledger) (ms : List Member) → LedgerShape L → LedgerShape (run L ms)

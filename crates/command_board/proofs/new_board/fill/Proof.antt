@@ -6,7 +6,7 @@ use lib.ListN.{length}
 use borrow.Author.Needs.{needs}
 use Rattle.command_board.proofs.new_board.fill.Statement.{statement}
 use Rattle.command_board.proofs.new_board.fill.Tie as tie
-use Rattle.command_board.specs.Laws.Fill.{FilledTo, filled-none, filled-more, filled-at}
+use Rattle.tables.specs.Laws.Fill.{FilledTo, filled-none, filled-more, filled-at}
 
 abbrev Inv-loop : tie.InvT-loop
 Inv-loop buffer₀ v i₀ buffer i = (i ≤ length buffer₀) × FilledTo (λ _. v) i buffer₀ buffer

@@ -7,7 +7,7 @@ use Rattle.command_board.specs.Made.{slotByte}
 use borrow.Author.Needs.{needs}
 use Rattle.command_board.proofs.new_board.fill_slots.Statement.{statement}
 use Rattle.command_board.proofs.new_board.fill_slots.Tie as tie
-use Rattle.command_board.specs.Laws.Fill.{FilledTo, filled-none, filled-more, filled-at}
+use Rattle.tables.specs.Laws.Fill.{FilledTo, filled-none, filled-more, filled-at}
 use Rattle.layout.specs.Sizes.{slotsLength}
 
 abbrev Inv-loop : tie.InvT-loop

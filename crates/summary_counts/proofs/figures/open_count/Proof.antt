@@ -3,7 +3,7 @@ use Prim.Native.Nat.{_-_, _≤_}
 use native.Mathlib.Omega.{arith}
 use borrow.Author.Needs.{needs}
 use Rattle.model.specs.Report.{open?}
-use Rattle.summary_counts.specs.Laws.Counts.{CountTo, count-to-none, count-to-more, count-to-at}
+use Rattle.model.specs.Laws.Counts.{CountTo, count-to-none, count-to-more, count-to-at}
 use Rattle.summary_counts.proofs.figures.open_count.Statement.{statement}
 use Rattle.summary_counts.proofs.figures.open_count.Tie as tie
 

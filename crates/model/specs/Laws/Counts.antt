@@ -6,9 +6,9 @@ use Prim.Native.Nat.{ℕ, _+_, _*_, _/_, _%_, _≤_}
 use native.Mathlib.Numerals.{add-one}
 use native.Mathlib.Omega.{arith}
 use lib.ListN.{getD}
-use lib.Dec.{eqb}
+use lib.Dec.{eqb, ltb}
 use Rattle.model.specs.Tests.{countBelow}
-use Rattle.model.specs.Report.{open?}
+use Rattle.model.specs.Report.{open?, struck?}
 
 -- the digit of a test
 digit-most : (b : Bool) {d : ℕ} → d ≡ cond b 1 0 → d ≤ 1
@@ -38,3 +38,6 @@ count-to-at {f} {n} {k} x l g = let e : k ≡ n = omega arith in rw e (x .is)
 -- the byte at place i is that of its call and slot
 pub open-place : (slots : List ℕ) (i : ℕ) → eqb (getD slots i 0) 255 ≡ open? slots (i / 32) (i % 32)
 open-place slots i = let e : i ≡ 32 * (i / 32) + i % 32 = omega arith in ap (λ (j : ℕ). eqb (getD slots j 0) 255) e
+
+pub struck-place : (slots : List ℕ) (i : ℕ) → ltb (getD slots i 0) 64 ≡ struck? slots (i / 32) (i % 32)
+struck-place slots i = let e : i ≡ 32 * (i / 32) + i % 32 = omega arith in ap (λ (j : ℕ). ltb (getD slots j 0) 64) e

@@ -1,0 +1,10 @@
+-- S AND R BETWEEN TWO BOARDS' SLOT BYTES (SCOPE 3.7).
+use mathlib.Core.Path.{_≡_}
+use mathlib.Core.List.{List}
+use Prim.Native.Nat.{ℕ}
+use Rattle.model.specs.Report.{struckBetween, reopenedBetween}
+use Rattle.command_mark.specs.declared.changes.Changes.{Changes}
+
+pub record Between (before after : List ℕ) (r : Changes) : Type 0 where
+  pub struck : r .struck ≡ struckBetween before after
+  pub reopened : r .reopened ≡ reopenedBetween before after

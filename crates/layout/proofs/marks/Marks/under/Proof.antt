@@ -1,0 +1,14 @@
+-- The code's test is the definition's.
+use mathlib.Core.Path.{refl}
+use borrow.Author.Tests.{eq-eqb, ne-eqb}
+use Rattle.layout.proofs.marks.Marks.under.Statement.{statement}
+use Rattle.layout.proofs.marks.Marks.under.Tie as tie
+
+returns : tie.Need-returns
+returns c = rw (eq-eqb _ 0 (c .before .if1 .taken)) refl
+
+returns-2 : tie.Need-returns-2
+returns-2 c = rw (ne-eqb _ 0 (c .before .if1 .left)) refl
+
+pub under-spec : {M : Type 1} → statement M
+under-spec = tie.close (tie.spec returns returns-2)
