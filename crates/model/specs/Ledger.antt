@@ -204,6 +204,11 @@ stepBy L m = step L (m .lent) (m .bytes)
 abbrev pub run : Ledger → List Member → Ledger
 run L ms = ledgerAfter stepBy L ms
 
+-- no command of a list is refused, each on the ledger that those before it leave
+abbrev pub NoneRefused : Ledger → List Member → Type 0
+NoneRefused L [] = Unit {0}
+NoneRefused L (m ∷ ms) = (refusal L (m .lent) (m .bytes) ≡ 0) × NoneRefused (stepBy L m) ms
+
 -- the lengths of what is lent, right
 abbrev pub lengths : CommandLent
 lengths = record { buffers = record { rows = rowsLength; killers = killersLength; slots = slotsLength }; table = recordsLength }

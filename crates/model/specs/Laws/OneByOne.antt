@@ -16,7 +16,7 @@ use Rattle.model.specs.declared.command.Read.{Read}
 use Rattle.model.specs.declared.command.Read.the-variants as found
 use Rattle.model.specs.Tests.{some?, every?}
 use Rattle.model.specs.Commands.{readAt}
-use Rattle.model.specs.Ledger.{Ledger, Member, noBoard?, badNumber?, lentConditions, kindConditions, formConditions, ownConditions, refusal, readEffect, obey, step, run, lengths, member}
+use Rattle.model.specs.Ledger.{Ledger, Member, noBoard?, badNumber?, lentConditions, kindConditions, formConditions, ownConditions, refusal, readEffect, obey, step, stepBy, run, NoneRefused, lengths, member}
 use Rattle.model.specs.Gaps.{pairTest, ruleOfGap}
 use Rattle.model.specs.Samples.{headBytes, rowBytes}
 use Rattle.model.specs.Laws.Tests.{or-false, not→, some→, every→}
@@ -35,6 +35,19 @@ pub record Sendable (L : Ledger) (f : GapRule) : Type 0 where
   pub apart : eqb (f .first) (f .second) ≡ false
   pub few : length (ruleOfGap (L .board .counts) f .rows) ≤ 64
 
+-- THESE COMMANDS LEAVE THAT LEDGER, none of them refused
+pub record Sent (L : Ledger) (ms : List Member) (L′ : Ledger) : Type 0 where
+  pub none-refused : NoneRefused L ms
+  pub left : run L ms ≡ L′
+
+-- one more before them
+sent-first : (L K L′ : Ledger) (m : Member) (ms : List Member) → refusal L (m .lent) (m .bytes) ≡ 0 → stepBy L m ≡ K → Sent K ms L′ → Sent L (m ∷ ms) L′
+sent-first L K L′ m ms accepted stepped rest =
+    record {
+      none-refused = (accepted, subst (λ (J : Ledger). NoneRefused J ms) (sym stepped) (rest .none-refused));
+      left = ap (λ (J : Ledger). run J ms) stepped ∙ rest .left;
+    }
+
 -- a row sent by kind 3
 abbrev pub sent : List ℕ → Member
 sent row = member (rowBytes row)
@@ -50,14 +63,23 @@ module _ (L : Ledger) (f : GapRule) where
   abbrev m : ℕ
   m = getD (L .board .counts) (f .second) 0
 
-  head-sent : Sendable L f → step L lengths (headBytes (f .number) (f .first ∷ f .second ∷ [])) ≡ headed-with []
+  abbrev head : Member
+  head = member (headBytes (f .number) (f .first ∷ f .second ∷ []))
+
+  head-accepted : Sendable L f → refusal L lengths (head .bytes) ≡ 0
+  head-accepted s = rw (s .board, s .number, s .first-on, s .second-on, s .apart) refl
+
+  head-sent : Sendable L f → stepBy L head ≡ headed-with []
   head-sent s = rw (s .board, s .number, s .first-on, s .second-on, s .apart) refl
 
   -- a row of two slots, one of each call, that is not among the others
-  pair-sent : (done : List (List ℕ)) (a b : ℕ) → noBoard? L ≡ false → length done < 64 → a < n → b < m
-      → some? (length done) (λ v. every? 2 (λ k. eqb (getD (getD done v []) k 255) (getD (a ∷ b ∷ 255 ∷ 255 ∷ []) k 255))) ≡ false
-      → step (headed-with done) lengths (rowBytes (a ∷ b ∷ [])) ≡ headed-with (done ++ ((a ∷ b ∷ []) ∷ []))
-  pair-sent done a b there room la lb new = rw (there, lt-leb 64 (length done) room, lt-leb n a la, lt-leb m b lb, new) refl
+  module _ (done : List (List ℕ)) (a b : ℕ) (there : noBoard? L ≡ false) (room : length done < 64) (la : a < n) (lb : b < m)
+      (new : some? (length done) (λ v. every? 2 (λ k. eqb (getD (getD done v []) k 255) (getD (a ∷ b ∷ 255 ∷ 255 ∷ []) k 255))) ≡ false) where
+    pair-accepted : refusal (headed-with done) lengths (rowBytes (a ∷ b ∷ [])) ≡ 0
+    pair-accepted = rw (there, lt-leb 64 (length done) room, lt-leb n a la, lt-leb m b lb, new) refl
+
+    pair-sent : step (headed-with done) lengths (rowBytes (a ∷ b ∷ [])) ≡ headed-with (done ++ ((a ∷ b ∷ []) ∷ []))
+    pair-sent = rw (there, lt-leb 64 (length done) room, lt-leb n a la, lt-leb m b lb, new) refl
 
   -- ROWS THAT CAN BE SENT: each of two slots, one of each call, no two the same, and no more than a rule has room for
   pub record SendableRows (rows : List (List ℕ)) : Type 0 where
@@ -92,35 +114,45 @@ module _ (L : Ledger) (f : GapRule) where
           (row .is ∙ ap (λ (c : ℕ). c ∷ row .second ∷ []) e ∙ ap (λ (c : ℕ). a ∷ c ∷ []) e′ ∙ sym is ∙ sym (getD-append-seam done x rest []))
 
   -- THE ROWS ARE TAKEN one after the other
-  rows-sent : (there : noBoard? L ≡ false) (done rest : List (List ℕ)) → SendableRows (done ++ rest)
-      → run (headed-with done) (map sent rest) ≡ headed-with (done ++ rest)
-  rows-sent there done [] rows = ap headed-with (sym (append-nil done))
+  rows-sent : (there : noBoard? L ≡ false) (done rest : List (List ℕ)) → SendableRows (done ++ rest) → Sent (headed-with done) (map sent rest) (headed-with (done ++ rest))
+  rows-sent there done [] rows = record { none-refused = tt; left = ap headed-with (sym (append-nil done)) }
   rows-sent there done (x ∷ rest) rows =
-      let longer : length done < length (done ++ (x ∷ rest)) = omega (arith, length-append done (x ∷ rest)) in
-      let row = rows .each (length done) longer in
-      let is : x ≡ row .first ∷ row .second ∷ [] = sym (getD-append-seam done x rest []) ∙ row .is in
-      let taken : step (headed-with done) lengths (rowBytes x) ≡ headed-with (done ++ (x ∷ [])) =
-      rw is (pair-sent done (row .first) (row .second) there (omega (arith, rows .few)) (row .first-on) (row .second-on)
-      (not-among done rest x (row .first) (row .second) rows is)) in
-      ap (λ (K : Ledger). run K (map sent rest)) taken
-      ∙ rows-sent there (done ++ (x ∷ [])) rest (subst (λ (l : List (List ℕ)). SendableRows l) (sym (append-assoc done (x ∷ []) rest)) rows)
-      ∙ ap headed-with (append-assoc done (x ∷ []) rest)
+      sent-first (headed-with done) (headed-with (done ++ (x ∷ []))) (headed-with (done ++ (x ∷ rest))) (sent x) (map sent rest)
+      (rw is (pair-accepted done (row .first) (row .second) there room (row .first-on) (row .second-on) new))
+      (rw is (pair-sent done (row .first) (row .second) there room (row .first-on) (row .second-on) new))
+      (subst (λ (l : List (List ℕ)). Sent (headed-with (done ++ (x ∷ []))) (map sent rest) (headed-with l)) (append-assoc done (x ∷ []) rest)
+      (rows-sent there (done ++ (x ∷ [])) rest (subst (λ (l : List (List ℕ)). SendableRows l) (sym (append-assoc done (x ∷ []) rest)) rows)))
+    where
+      longer : length done < length (done ++ (x ∷ rest))
+      longer = omega (arith, length-append done (x ∷ rest))
+
+      row : GapRow (f .form) (f .gap) n m (getD (done ++ (x ∷ rest)) (length done) [])
+      row = rows .each (length done) longer
+
+      is : x ≡ row .first ∷ row .second ∷ []
+      is = sym (getD-append-seam done x rest []) ∙ row .is
+
+      room : length done < 64
+      room = omega (arith, longer, rows .few)
+
+      new : some? (length done) (λ v. every? 2 (λ k. eqb (getD (getD done v []) k 255) (getD (row .first ∷ row .second ∷ 255 ∷ 255 ∷ []) k 255))) ≡ false
+      new = not-among done rest x (row .first) (row .second) rows is
 
   -- THE COMMANDS ONE BY ONE: the head and then the rows
   abbrev pub oneByOne : List Member
-  oneByOne = member (headBytes (f .number) (f .first ∷ f .second ∷ [])) ∷ map sent (ruleOfGap (L .board .counts) f .rows)
+  oneByOne = head ∷ map sent (ruleOfGap (L .board .counts) f .rows)
 
-  -- they leave the form's rule as the draft
-  sent-one-by-one : Sendable L f → run L oneByOne ≡ headed-with (ruleOfGap (L .board .counts) f .rows)
+  -- none is refused, and they leave the form's rule as the draft
+  sent-one-by-one : Sendable L f → Sent L oneByOne (headed-with (ruleOfGap (L .board .counts) f .rows))
   sent-one-by-one s =
       let all = ruleOfGap (L .board .counts) f .rows in
-      ap (λ (K : Ledger). run K (map sent all)) (head-sent s)
-      ∙ rows-sent (s .board) [] all
+      sent-first L (headed-with []) (headed-with all) head (map sent all) (head-accepted s) (head-sent s)
+      (rows-sent (s .board) [] all
       (record {
         each = gap-row (f .form) (f .gap) n m;
         apart = rows-apart (32 * n) (pairTest (f .form) (f .gap) m);
         few = s .few;
-      })
+      }))
 
   -- and kind 6 asks no less than they do
   allowed-sendable : (ns : List ℕ) → firstOf (kindConditions L (kind.Gap f) ns) ≡ 0 → Sendable L f
@@ -136,13 +168,12 @@ module _ (L : Ledger) (f : GapRule) where
         few = ltb-false 64 (length (ruleOfGap (L .board .counts) f .rows)) (good refused.tooManyPairs);
       }
 
-  -- WHERE KIND 6 IS ACCEPTED, whatever it is read from, the ledger after it is the one after the head and the rows
+  -- WHERE KIND 6 IS ACCEPTED, whatever it is read from, the head and the rows leave the same ledger, none of them refused
   pub gap-one-by-one : (lent : CommandLent) (bytes : List ℕ) → readAt bytes 0 .read ≡ found.Command (kind.Gap f) → refusal L lent bytes ≡ 0
-      → step L lent bytes ≡ run L oneByOne
+      → Sent L oneByOne (step L lent bytes)
   gap-one-by-one lent bytes is accepted =
-      ap (λ (n : ℕ). obey n L (readAt bytes 0 .read) ns) accepted
-      ∙ ap (λ (r : Read). readEffect L r ns) is
-      ∙ sym (sent-one-by-one (allowed-sendable ns (rest-passes (early (found.Command (kind.Gap f))) (kindConditions L (kind.Gap f) ns) tt own)))
+      subst (λ (K : Ledger). Sent L oneByOne K) (sym stepped)
+      (sent-one-by-one (allowed-sendable ns (rest-passes (early (found.Command (kind.Gap f))) (kindConditions L (kind.Gap f) ns) tt own)))
     where
       ns : List ℕ
       ns = readAt bytes 0 .counts
@@ -152,3 +183,6 @@ module _ (L : Ledger) (f : GapRule) where
 
       own : firstOf (early (found.Command (kind.Gap f)) ++ kindConditions L (kind.Gap f) ns) ≡ 0
       own = ap (λ (r : Read). firstOf (early r ++ ownConditions L r ns)) (sym is) ∙ accepted
+
+      stepped : step L lent bytes ≡ headed-with (ruleOfGap (L .board .counts) f .rows)
+      stepped = ap (λ (k : ℕ). obey k L (readAt bytes 0 .read) ns) accepted ∙ ap (λ (r : Read). readEffect L r ns) is
