@@ -2,7 +2,8 @@
 //! that it runs on. Only kinds 4 and 5 are timed; heads and rows are sent outside the clock. After each command all sides have to show the same open slots. A
 //! command of the library leaves the summary table current, too, in the time that is measured; the others have no such table.
 //!
-//! Gap rules are measured apart from these: each is one command of the library, against the head and the rows of the same draft.
+//! Gap rules are measured apart from these: each is one command of the library, against the head and the rows of the same draft. So are marks and backs of order
+//! 13's board, and commands that have next to nothing to do, of the library alone.
 #[path = "../hosts/berth.rs"]
 mod berth;
 
@@ -309,6 +310,13 @@ fn ready<S: Side>(case: &Case) -> (S, Shown) {
     (side, shown)
 }
 
+fn put_all(side: &mut Ours, case: &Case) {
+    for rule in &case.rules {
+        side.prepare(rule);
+        side.put();
+    }
+}
+
 fn measure(case: &Case, clock: u64) {
     let (mut ours, ours_shown) = ready::<Ours>(case);
     let (mut afresh, afresh_shown) = ready::<Afresh>(case);
@@ -407,13 +415,75 @@ fn measure_gap_rules(clock: u64) {
     gap_rules().iter().for_each(|rule| measure_gap_rule(rule, clock));
 }
 
-/// The name of the gap rules among those of the boards.
-const GAP_RULES: &str = "gap rules";
+/// Order 13's board is kept with all rules in force, and without any; each is brought back from the other, and has to show its open slots.
+fn measure_marks(clock: u64) {
+    println!("Nanoseconds per command on order 13's board, medians; reading the clock, {clock} ns, is taken off.\n");
+    println!("| {:4} | {:22} | {:31} | {:>9} |", "kind", "rules in force", "slots, per command", "library");
+    println!("|------|------------------------|---------------------------------|-----------|");
+    let case = busiest();
+    let mut side = Ours::start(&case);
+    // before any rule
+    side.board.mark(1).unwrap();
+    let bare = side.shown();
+    put_all(&mut side, &case);
+    let full = side.shown();
+    let commands = [
+        ("mark", "64, each with 64 rows", [7, 0], full),
+        ("back", "none after 64", [8, 1], bare),
+        ("back", "64 after none", [8, 0], full),
+    ];
+    let mut times = [vec![], vec![], vec![]];
+    let mut reports = [berth::Report::default(); 3];
+    for _ in 0..4001 {
+        for (k, (_, rules, bytes, due)) in commands.iter().enumerate() {
+            timed(&mut times[k], || reports[k] = side.board.command(bytes).unwrap());
+            assert!(side.shown() == *due, "{rules}: other open slots");
+        }
+    }
+    for (k, (kind, rules, ..)) in commands.iter().enumerate() {
+        let slots = format!("{} struck, {} reopened", reports[k].struck, reports[k].reopened);
+        println!("| {kind:4} | {rules:22} | {slots:31} | {:9} |", median(&times[k]) - clock);
+    }
+}
+
+/// So many are timed in a row, since one of them takes about as long as reading the clock.
+const IN_A_ROW: u64 = 1000;
+
+/// Commands on the everyday board, with the number that each is refused under; 0 where it is accepted.
+fn measure_small_commands(clock: u64) {
+    println!("Nanoseconds per command on the board everyday, medians of {IN_A_ROW} in a row; reading the clock, {clock} ns, is taken off.\n");
+    println!("| {:4} | {:10} | {:>9} |", "kind", "answer", "library");
+    println!("|------|------------|-----------|");
+    let commands: [(&str, &[u8], u8); 3] =
+        [("lift", &[5, 63], 17), ("row", &[3, 0, 255, 255, 255], 12), ("head", &[2, 63, 1, 0, 255, 255, 255], 0)];
+    for (kind, bytes, due) in commands {
+        let case = everyday();
+        let mut side = Ours::start(&case);
+        put_all(&mut side, &case);
+        let mut times = vec![];
+        for _ in 0..401 {
+            let mut others = 0;
+            timed(&mut times, || {
+                for _ in 0..IN_A_ROW {
+                    let answer = side.board.command(bytes);
+                    others += (answer.map_or_else(berth::Refusal::number, |_| 0) != due) as usize;
+                }
+            });
+            assert!(others == 0, "{kind}: another answer");
+        }
+        let answer = if due == 0 { "accepted".to_string() } else { format!("refused {due}") };
+        println!("| {kind:4} | {answer:10} | {:9.1} |", (median(&times) - clock) as f64 / IN_A_ROW as f64);
+    }
+}
+
+/// What is measured besides the boards, by its name among theirs.
+const OTHERS: [(&str, fn(u64)); 3] =
+    [("gap rules", measure_gap_rules), ("marks", measure_marks), ("small commands", measure_small_commands)];
 
 /// The boards of this name, or all where it is empty. A name that nothing has ends the program with the list of them.
 fn chosen(name: &str) -> Vec<Case> {
     let mut cases = vec![busiest(), dense("dense", 24, 60), dense("overfull", 64, 20), many_strikes(), long_chain(), chain(), everyday(), busy_day()];
-    let names: Vec<&str> = cases.iter().map(|case| case.name).chain([GAP_RULES]).collect();
+    let names: Vec<&str> = cases.iter().map(|case| case.name).chain(OTHERS.map(|(name, _)| name)).collect();
     if !name.is_empty() && !names.contains(&name) {
         eprintln!("there is no board '{}'; there are: {}", name, names.join(", "));
         std::process::exit(2);
@@ -441,10 +511,10 @@ fn main() {
     if !cases.is_empty() {
         measure_boards(&cases, clock);
     }
-    if name.is_empty() {
-        println!();
-    }
-    if name.is_empty() || name == GAP_RULES {
-        measure_gap_rules(clock);
+    for (_, measure) in OTHERS.iter().filter(|(other, _)| name.is_empty() || name == *other) {
+        if name.is_empty() {
+            println!();
+        }
+        measure(clock);
     }
 }

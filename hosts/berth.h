@@ -2,35 +2,44 @@
  * The berth board, for a host in C (C99 and later) or C++. Link libberth.a.
  *
  * A board has 1 to 32 calls, each with 1 to 32 slots, and up to 64 rules. Everything is numbered from 0 and is one unsigned byte. The library keeps nothing:
- * the host holds a value, three buffers and a summary table. It lends value and buffers to every function, and the table to commands, which write all five in
- * place. struct berth_board below holds all of it.
+ * the host holds a value, the names of two marks, four buffers and a summary table. It lends all of it to commands, which write it in place, and to questions
+ * three of the buffers; the value they are handed as a copy. struct berth_board below holds all of it.
  *
- * Each function is proved to return, and to stay inside what it is lent, whatever the value, the buffers, the table and the command's bytes hold. What the host
- * has to see to: the library is the header's (berth_header_fits), a pointer is not null and reaches as far as its length says, and what is lent to one call, the
- * value among it, does not overlap.
+ * Each function is proved to return, and to stay inside what it is lent, whatever the value, the names, the buffers, the table and the command's bytes hold.
+ * What the host has to see to: the library is the header's (berth_header_fits), a pointer is not null and reaches as far as its length says, or as one value or
+ * two names do, and what is lent to one call, value and names among it, does not overlap.
  *
- * A board takes 22,279 bytes, 679 of them the value's, and the library takes nothing from a heap. It has no variables, so boards have nothing to do with each
- * other: threads may work on different boards at once. A board is one thread's at a time, except that several may ask it questions while none sends a command.
+ * A board takes 66,121 bytes, 43,008 of them the marks'; value and names, which are held beside the buffers, are 1,513. The library takes nothing from a heap. It
+ * has no variables, so boards have nothing to do with each other: threads may work on different boards at once. A board is one thread's at a time, except that
+ * several may ask it questions while none sends a command.
  *
  * Memory that is lent, in bytes:
+ *   value       679  struct berth_value: the calls, the heads of the rules in force, and the draft.
+ *   names       834  two of struct berth_name, that of name 0 first: whether a board is kept under the name, its calls and the heads of its rules. Only a mark
+ *                    command writes here, and only its own name, and a board command and a replay, which forget both.
  *   rows     16,384  row w of rule r fills four bytes from 256 * r + 4 * w: a slot for each column, 255 in a spare column. Rows beyond a rule's last, and
  *                    rules out of force, hold 255.
  *   killers   4,096  byte 64 * r + w is the column (0 to 3) of a struck slot in row w of rule r where that row is dead, else 255.
  *   slots     1,024  byte 32 * call + slot is 255 for an open slot, 254 for one that is not on the board, else its cause: the number of a rule on its call.
+ *   marks    43,008  two marks of 21,504 bytes, that of name 0 first: the three buffers above, in their order, of the board that is kept under the name. Only a
+ *                    mark command writes here, and only its own name's half; where nothing is kept the bytes are any.
  *   table        96  record c, of three bytes, has the figures of call c: its open slots, its struck slots, and the rules in force on it. A call that is not on
  *                    the board has zeros.
- * Before the first command they hold 255, 255, 254 and 0 throughout, beside the value of berth_fresh(). As long as only commands write value and buffers, what is
- * open is arc consistent under the rules in force, and no larger set of slots is; and a command that is accepted brings all of the table up to date, whatever it
- * held. If the host alters any of it, functions still return, stay inside and change nothing when they refuse.
+ * Before the first command rows, killers, slots and table hold 255, 255, 254 and 0 throughout, and the marks anything, beside the value and the names of
+ * berth_fresh(). As long as only commands write value, names and buffers, what is open is arc consistent under the rules in force, and no larger set of slots is;
+ * and a command that is accepted brings all of the table up to date, whatever it held. If the host alters any of it, a mark or its name among it, functions still
+ * return, stay inside and change nothing when they refuse; of an altered mark, a back brings back what it finds.
  *
  * A command is one byte of kind and a body:
- *   1 board  32 slot counts, 0 after the last call      a new board, without rules and draft
+ *   1 board  32 slot counts, 0 after the last call      a new board, without rules, draft and marks
  *   2 head   number, arity (1 to 4), four calls         a draft of a rule, in place of any other
  *   3 row    four slots                                 one more row of the draft
  *   4 put    nothing                                    brings the draft into force, and leaves no draft
  *   5 lift   number                                     the rule leaves force, and the draft stays
  *   6 gap    form, number, first and second call, gap   a draft of a gap rule with its rows, in place of any other
- * Calls and slots past the arity are 255.
+ *   7 mark   name (0 or 1)                              keeps the board under the name, in place of any other; the draft stays
+ *   8 back   name                                       brings the board under the name back, and leaves no draft; the mark stays kept
+ * Calls and slots past the arity are 255. A mark keeps calls, rules, rows and slots, causes and killers.
  *
  * A gap rule is on two calls. Its rows are all pairs of slots, a of the first call and b of the second, that fit its form, in rising order of a, then of b:
  *   1 before  a + gap is at most b
@@ -52,7 +61,10 @@ extern "C" {
 #define BERTH_ROWS 16384
 #define BERTH_KILLERS 4096
 #define BERTH_SLOTS 1024
-#define BERTH_VALUE_SIZE 679
+#define BERTH_MARKS 43008
+
+/* Value and names together, struct berth_marked_value. */
+#define BERTH_VALUE_SIZE 1513
 
 /* The summary table's length, in records. */
 #define BERTH_RECORDS 32
@@ -67,14 +79,14 @@ extern "C" {
 #define BERTH_STACK 12288
 
 /* The version that this header is of. It rises with any change of a struct, of a function or of what one means. */
-#define BERTH_VERSION 5
+#define BERTH_VERSION 6
 
-/* The version of the library, and the bytes of its value. They are plain numbers, so that they can be asked whatever else differs. */
+/* The version of the library, and the bytes of its value and names. They are plain numbers, so that they can be asked whatever else differs. */
 uint32_t berth_version(void);
 size_t berth_value_size(void);
 
 /* The kinds of commands. */
-enum berth_kind { BERTH_BOARD = 1, BERTH_HEAD = 2, BERTH_ROW = 3, BERTH_PUT = 4, BERTH_LIFT = 5, BERTH_GAP = 6 };
+enum berth_kind { BERTH_BOARD = 1, BERTH_HEAD = 2, BERTH_ROW = 3, BERTH_PUT = 4, BERTH_LIFT = 5, BERTH_GAP = 6, BERTH_MARK = 7, BERTH_BACK = 8 };
 
 /* The forms of gap rules. */
 enum berth_form { BERTH_BEFORE = 1, BERTH_APART = 2, BERTH_SAME = 3 };
@@ -108,7 +120,9 @@ enum berth_refusal {
     BERTH_TABLE_LENGTH = 22,
     BERTH_BAD_FORM = 23,
     BERTH_BAD_GAP = 24,
-    BERTH_TOO_MANY_PAIRS = 25
+    BERTH_TOO_MANY_PAIRS = 25,
+    BERTH_NAME_OVER_1 = 26,
+    BERTH_NOTHING_KEPT = 27
 };
 
 /* The condition that a refusal's number stands for. */
@@ -139,6 +153,8 @@ static inline const char *berth_refusal_text(uint8_t number) {
     case BERTH_BAD_FORM: return "the form is not 1 to 3";
     case BERTH_BAD_GAP: return "the gap is over 31, or not 0 in form 3";
     case BERTH_TOO_MANY_PAIRS: return "more than 64 pairs of slots fit";
+    case BERTH_NAME_OVER_1: return "the mark's name is over 1";
+    case BERTH_NOTHING_KEPT: return "nothing is kept under the name";
     default: return "no refusal has this number";
     }
 }
@@ -165,10 +181,22 @@ struct berth_draft {
     struct berth_rule rule;
 };
 
-/* The value beside the buffers, with no padding. */
+/* The board's value: what commands are lent, and questions are handed. */
 struct berth_value {
     struct berth_heads heads;
     struct berth_draft draft;
+};
+
+/* The name of a mark: what is held of the mark beside its bytes. */
+struct berth_name {
+    uint8_t kept;             /* 1 where a board is kept, 0 where none is */
+    struct berth_heads heads; /* its calls and the heads of its rules; a fresh board's where none is */
+};
+
+/* All that is held beside the buffers, with no padding. */
+struct berth_marked_value {
+    struct berth_value value;
+    struct berth_name names[2];
 };
 
 /* The figures of a call: a record of the summary table. */
@@ -179,58 +207,58 @@ struct berth_summary {
 };
 
 /* The compiler leaves no room between the fields. */
-typedef char berth_value_is_packed[sizeof(struct berth_value) == BERTH_VALUE_SIZE ? 1 : -1];
+typedef char berth_value_is_packed[sizeof(struct berth_marked_value) == BERTH_VALUE_SIZE ? 1 : -1];
 typedef char berth_summary_is_packed[sizeof(struct berth_summary) == 3 ? 1 : -1];
 
 /* Whether the linked library is the one that this header describes: 1, or 0, and then no other function may be called. */
 static inline int berth_header_fits(void) {
-    return berth_version() == BERTH_VERSION && berth_value_size() == sizeof(struct berth_value);
+    return berth_version() == BERTH_VERSION && berth_value_size() == sizeof(struct berth_marked_value);
 }
 
-/* The value before the first command. */
-struct berth_value berth_fresh(void);
+/* The value and the names before the first command. */
+struct berth_marked_value berth_fresh(void);
 
 /*
- * A command. The value, the buffers and the table are written in place; where it is refused, all of them stay as they were. None of them may overlap another or
- * the command's bytes.
+ * A command. The value, the two names, the buffers and the table are written in place; where it is refused, all of them stay as they were. None of them may
+ * overlap another or the command's bytes. Of the names an accepted mark writes its own, an accepted board both, and any other kind neither.
  * Checked, by kind: 1, 22, 3, 4, then
- *   board 5; head 6, 7, 8, 9, 10, 11; row 6, 12, 13, 14, 11, 15; put 6, 12, 16; lift 6, 7, 17; gap 6, 7, 23, 9, 10, 24, 25.
+ *   board 5; head 6, 7, 8, 9, 10, 11; row 6, 12, 13, 14, 11, 15; put 6, 12, 16; lift 6, 7, 17; gap 6, 7, 23, 9, 10, 24, 25; mark 6, 26; back 6, 26, 27.
  */
 struct berth_command_reply {
     size_t struck;   /* S: slots open before and struck after */
     size_t reopened; /* R: slots struck before and open after */
-    size_t touched;  /* T: of a put S; of a lift at least R, and at most the slots struck before */
-    uint8_t number;  /* 0, or the refusal; S, R and T are 0 then, and for all kinds but put and lift */
+    size_t touched;  /* T: of a put S; of a lift at least R, and at most the slots struck before; of a back S + R */
+    uint8_t number;  /* 0, or the refusal; S, R and T are 0 then, and for all kinds but put, lift and back */
 };
 
-struct berth_command_reply berth_command(struct berth_value *value, const uint8_t *bytes, size_t bytes_length, uint8_t *rows, size_t rows_length,
-                                         uint8_t *killers, size_t killers_length, uint8_t *slots, size_t slots_length, struct berth_summary *table,
-                                         size_t table_length);
+struct berth_command_reply berth_command(struct berth_value *value, struct berth_name *names, const uint8_t *bytes, size_t bytes_length, uint8_t *rows,
+                                         size_t rows_length, uint8_t *killers, size_t killers_length, uint8_t *slots, size_t slots_length, uint8_t *marks,
+                                         size_t marks_length, struct berth_summary *table, size_t table_length);
 
 /*
- * A file of commands, one after another, at most BERTH_FILE bytes. The memory becomes a fresh board's, whatever value, buffers and table held; then each command
- * is run, and those that are refused change nothing, up to the file's end or the first that cannot be read (3, 4). The table is current then, too. All is lent as
- * to berth_command. Checked before anything is changed: 1, 22, 2.
+ * A file of commands, one after another, at most BERTH_FILE bytes. The memory becomes a fresh board's, whatever it held: nothing is kept under either name, and
+ * the bytes of the marks stay. Then each command is run, and those that are refused change nothing, up to the file's end or the first that cannot be read (3, 4).
+ * The table is current then, too. All is lent as to berth_command. Checked before anything is changed: 1, 22, 2.
  */
 struct berth_replay_reply {
     size_t ran;     /* commands that were run, also those that were refused */
     uint8_t number; /* 1, 22 or 2, and nothing was changed; else how the file ended: 0 where all of it was run, or 3 or 4 */
 };
 
-struct berth_replay_reply berth_replay(struct berth_value *value, const uint8_t *file, size_t file_length, uint8_t *rows, size_t rows_length,
-                                       uint8_t *killers, size_t killers_length, uint8_t *slots, size_t slots_length, struct berth_summary *table,
-                                       size_t table_length);
+struct berth_replay_reply berth_replay(struct berth_value *value, struct berth_name *names, const uint8_t *file, size_t file_length, uint8_t *rows,
+                                       size_t rows_length, uint8_t *killers, size_t killers_length, uint8_t *slots, size_t slots_length, uint8_t *marks,
+                                       size_t marks_length, struct berth_summary *table, size_t table_length);
 
 /* The memory becomes a fresh board's, whatever it held: a file without commands is replayed. Checked: 1, 22; where it is refused nothing changes. */
-static inline struct berth_replay_reply berth_fresh_board(struct berth_value *value, uint8_t *rows, size_t rows_length, uint8_t *killers,
-                                                          size_t killers_length, uint8_t *slots, size_t slots_length, struct berth_summary *table,
-                                                          size_t table_length) {
+static inline struct berth_replay_reply berth_fresh_board(struct berth_value *value, struct berth_name *names, uint8_t *rows, size_t rows_length,
+                                                          uint8_t *killers, size_t killers_length, uint8_t *slots, size_t slots_length, uint8_t *marks,
+                                                          size_t marks_length, struct berth_summary *table, size_t table_length) {
     static const uint8_t no_commands[1] = {0};
-    return berth_replay(value, no_commands, 0, rows, rows_length, killers, killers_length, slots, slots_length, table, table_length);
+    return berth_replay(value, names, no_commands, 0, rows, rows_length, killers, killers_length, slots, slots_length, marks, marks_length, table, table_length);
 }
 
 /*
- * The questions. They write nothing, so each is handed a copy of the value, and they are not lent the table.
+ * The questions. They write nothing, so each is handed a copy of the value, and they are lent neither the names, nor the marks, nor the table.
  *
  * The slots of a call. Checked: 1, 6, 18.
  */
@@ -288,32 +316,36 @@ struct berth_support_reply berth_support(struct berth_value value, const uint8_t
 
 /* A board with its memory. The functions on it lend its parts to the functions above. */
 struct berth_board {
-    struct berth_value value;
+    struct berth_marked_value value;
     uint8_t rows[BERTH_ROWS];
     uint8_t killers[BERTH_KILLERS];
     uint8_t slots[BERTH_SLOTS];
+    uint8_t marks[BERTH_MARKS];
     struct berth_summary table[BERTH_RECORDS];
 };
 
-/* The buffers of a board, in the order in which every function takes them; and with the value, as the questions take it. */
+/* Three buffers, in the order in which every function takes them; with the value, as questions do; and value and names, and the buffers with the marks, as
+   commands do. */
 #define BERTH_BUFFERS(board) (board)->rows, BERTH_ROWS, (board)->killers, BERTH_KILLERS, (board)->slots, BERTH_SLOTS
-#define BERTH_PARTS(board) (board)->value, BERTH_BUFFERS(board)
+#define BERTH_PARTS(board) (board)->value.value, BERTH_BUFFERS(board)
+#define BERTH_HELD(board) &(board)->value.value, (board)->value.names
+#define BERTH_BUFFERS_AND_MARKS(board) BERTH_BUFFERS(board), (board)->marks, BERTH_MARKS
 
 /* Makes it a fresh board, before any command, and returns 1. Where the library is not the header's it returns 0 and does nothing. */
 BERTH_CHECKED static inline int berth_board_clear(struct berth_board *board) {
     if (!berth_header_fits())
         return 0;
-    berth_fresh_board(&board->value, BERTH_BUFFERS(board), board->table, BERTH_RECORDS);
+    berth_fresh_board(BERTH_HELD(board), BERTH_BUFFERS_AND_MARKS(board), board->table, BERTH_RECORDS);
     return 1;
 }
 
 /* Makes it a fresh board and runs a file of commands on it. */
 static inline struct berth_replay_reply berth_board_replay(struct berth_board *board, const uint8_t *bytes, size_t length) {
-    return berth_replay(&board->value, bytes, length, BERTH_BUFFERS(board), board->table, BERTH_RECORDS);
+    return berth_replay(BERTH_HELD(board), bytes, length, BERTH_BUFFERS_AND_MARKS(board), board->table, BERTH_RECORDS);
 }
 
 static inline struct berth_command_reply berth_board_command(struct berth_board *board, const uint8_t *bytes, size_t length) {
-    return berth_command(&board->value, bytes, length, BERTH_BUFFERS(board), board->table, BERTH_RECORDS);
+    return berth_command(BERTH_HELD(board), bytes, length, BERTH_BUFFERS_AND_MARKS(board), board->table, BERTH_RECORDS);
 }
 
 /*
@@ -375,6 +407,15 @@ static inline struct berth_command_bytes berth_make_gap(uint8_t form, uint8_t nu
     return berth_make_filled(berth_make_blank(BERTH_GAP, 6, 0), 1, fields, 5);
 }
 
+/* The board is kept under a name, 0 or 1; and brought back. */
+static inline struct berth_command_bytes berth_make_mark(uint8_t name) {
+    return berth_make_filled(berth_make_blank(BERTH_MARK, 2, 0), 1, &name, 1);
+}
+
+static inline struct berth_command_bytes berth_make_back(uint8_t name) {
+    return berth_make_filled(berth_make_blank(BERTH_BACK, 2, 0), 1, &name, 1);
+}
+
 static inline struct berth_command_reply berth_board_obey(struct berth_board *board, struct berth_command_bytes made) {
     return berth_board_command(board, made.bytes, made.length);
 }
@@ -402,6 +443,14 @@ static inline struct berth_command_reply berth_board_lift(struct berth_board *bo
 
 static inline struct berth_command_reply berth_board_gap(struct berth_board *board, uint8_t form, uint8_t number, uint8_t first, uint8_t second, uint8_t gap) {
     return berth_board_obey(board, berth_make_gap(form, number, first, second, gap));
+}
+
+static inline struct berth_command_reply berth_board_mark(struct berth_board *board, uint8_t name) {
+    return berth_board_obey(board, berth_make_mark(name));
+}
+
+static inline struct berth_command_reply berth_board_back(struct berth_board *board, uint8_t name) {
+    return berth_board_obey(board, berth_make_back(name));
 }
 
 /* The record of a call, read from the board's table; zeros for a call that is not on the board. */

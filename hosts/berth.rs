@@ -1,5 +1,5 @@
-//! The berth board for a host in Rust: one file, and the static library libberth.a. `Board` owns the value beside the buffers, the three buffers and the summary
-//! table, and only commands change them; what a board is, and what the bytes of a command are, is said in berth.h.
+//! The berth board for a host in Rust: one file, and the static library libberth.a. `Board` owns the value, the names of the marks, the four buffers and the
+//! summary table, and only commands change them; what a board is, and what the bytes of a command are, is said in berth.h.
 //!
 //! The functions of the module `lent` work on memory that the caller lends, of any length and with any contents: the library is proved to return and to stay
 //! inside it, so they are safe with a library of this file's version. `Board` hands its own memory to them.
@@ -11,6 +11,7 @@ use std::mem::size_of;
 pub const ROWS: usize = 16384;
 pub const KILLERS: usize = 4096;
 pub const SLOTS: usize = 1024;
+pub const MARKS: usize = 43008;
 
 /// The summary table's length, in records.
 pub const RECORDS: usize = 32;
@@ -19,7 +20,7 @@ pub const RECORDS: usize = 32;
 pub const FILE: usize = 32768;
 
 /// The version that this file is of; the library has its own.
-pub const VERSION: u32 = 5;
+pub const VERSION: u32 = 6;
 
 /// The calls and the heads of the rules in force.
 #[repr(C)]
@@ -56,12 +57,30 @@ pub struct Draft {
     pub rule: Rule,
 }
 
-/// The value beside the buffers.
+/// The board's value: what commands are lent, and questions are handed.
 #[repr(C)]
 #[derive(Clone, Copy, Debug, PartialEq, Eq)]
 pub struct Value {
     pub heads: Heads,
     pub draft: Draft,
+}
+
+/// The name of a mark: what is held of the mark beside its bytes.
+#[repr(C)]
+#[derive(Clone, Copy, Debug, PartialEq, Eq)]
+pub struct Name {
+    /// 1 where a board is kept, 0 where none is
+    pub kept: u8,
+    /// its calls and the heads of its rules; a fresh board's where none is
+    pub heads: Heads,
+}
+
+/// All that is held beside the buffers.
+#[repr(C)]
+#[derive(Clone, Copy, Debug, PartialEq, Eq)]
+pub struct MarkedValue {
+    pub value: Value,
+    pub names: [Name; 2],
 }
 
 /// The figures of a call: a record of the summary table. A call that is not on the board has zeros.
@@ -140,6 +159,8 @@ refusals! {
     23 BadForm "the form is not 1 to 3"
     24 BadGap "the gap is over 31, or not 0 in form 3"
     25 TooManyPairs "more than 64 pairs of slots fit"
+    26 NameOver1 "the mark's name is over 1"
+    27 NothingKept "nothing is kept under the name"
 }
 
 impl fmt::Display for Refusal {
@@ -168,7 +189,7 @@ pub struct Report {
     pub struck: usize,
     /// slots struck before and open after
     pub reopened: usize,
-    /// of a put the slots struck; of a lift at least those reopened, and at most those struck before
+    /// of a put the slots struck; of a lift at least those reopened, and at most those struck before; of a back those struck and those reopened
     pub touched: usize,
 }
 
@@ -248,9 +269,9 @@ pub mod lent {
     extern "C" {
         fn berth_version() -> u32;
         fn berth_value_size() -> usize;
-        fn berth_fresh() -> Value;
-        fn berth_command(value: *mut Value, bytes: Lent, b: usize, rows: LentMut, r: usize, killers: LentMut, k: usize, slots: LentMut, s: usize, table: *mut Summary, t: usize) -> CommandReply;
-        fn berth_replay(value: *mut Value, file: Lent, f: usize, rows: LentMut, r: usize, killers: LentMut, k: usize, slots: LentMut, s: usize, table: *mut Summary, t: usize) -> ReplayReply;
+        fn berth_fresh() -> MarkedValue;
+        fn berth_command(value: *mut Value, names: *mut [Name; 2], bytes: Lent, b: usize, rows: LentMut, r: usize, killers: LentMut, k: usize, slots: LentMut, s: usize, marks: LentMut, m: usize, table: *mut Summary, t: usize) -> CommandReply;
+        fn berth_replay(value: *mut Value, names: *mut [Name; 2], file: Lent, f: usize, rows: LentMut, r: usize, killers: LentMut, k: usize, slots: LentMut, s: usize, marks: LentMut, m: usize, table: *mut Summary, t: usize) -> ReplayReply;
         fn berth_open_slots(value: Value, rows: Lent, r: usize, killers: Lent, k: usize, slots: Lent, s: usize, call: u8) -> SlotsReply;
         fn berth_slot_state(value: Value, rows: Lent, r: usize, killers: Lent, k: usize, slots: Lent, s: usize, call: u8, slot: u8) -> ByteReply;
         fn berth_row_state(value: Value, rows: Lent, r: usize, killers: Lent, k: usize, slots: Lent, s: usize, rule: u8, row: u8) -> ByteReply;
@@ -276,31 +297,34 @@ pub mod lent {
     pub fn library_fits() -> bool {
         // SAFETY: it takes nothing and returns a number, in every version.
         let size = unsafe { berth_value_size() };
-        library_version() == VERSION && size == size_of::<Value>()
+        library_version() == VERSION && size == size_of::<MarkedValue>()
     }
 
-    /// The value before the first command. Panics where the library is not this file's.
-    pub fn fresh() -> Value {
+    /// The value and the names before the first command. Panics where the library is not this file's.
+    pub fn fresh() -> MarkedValue {
         let found = library_version();
         assert!(library_fits(), "libberth.a is not the library of this berth.rs (versions {found} and {VERSION})");
-        // SAFETY: it takes nothing, and the library's `Value` is laid out like this file's.
+        // SAFETY: it takes nothing, and the library's `MarkedValue` is laid out like this file's.
         unsafe { berth_fresh() }
     }
 
-    /// A command. Value, buffers and table are written in place; a refusal leaves all of them as they were.
+    /// A command. Value, names, buffers and table are written in place; a refusal leaves all of them as they were.
     pub fn command(
         value: &mut Value,
+        names: &mut [Name; 2],
         bytes: &[u8],
         rows: &mut [u8],
         killers: &mut [u8],
         slots: &mut [u8],
+        marks: &mut [u8],
         table: &mut [Summary],
     ) -> Answer<Report> {
-        // SAFETY: each pointer is a slice's, with that slice's length, so it reaches as far, or the value's; the five that are written are unique borrows, which
-        // overlap nothing. Whatever the slices and the value hold, the function returns and writes only inside them.
+        // SAFETY: each pointer is a slice's, with that slice's length, so it reaches as far, or that of the value or of both names; the seven that are written
+        // are unique borrows, which overlap nothing. Whatever they hold, the function returns and writes only inside them.
         let reply = unsafe {
             berth_command(
                 value,
+                names,
                 bytes.as_ptr(),
                 bytes.len(),
                 rows.as_mut_ptr(),
@@ -309,6 +333,8 @@ pub mod lent {
                 killers.len(),
                 slots.as_mut_ptr(),
                 slots.len(),
+                marks.as_mut_ptr(),
+                marks.len(),
                 table.as_mut_ptr(),
                 table.len(),
             )
@@ -320,16 +346,19 @@ pub mod lent {
     /// A fresh board, and the commands of a file run on it, up to the first that cannot be read. Where a length is refused, all is as it was.
     pub fn replay(
         value: &mut Value,
+        names: &mut [Name; 2],
         file: &[u8],
         rows: &mut [u8],
         killers: &mut [u8],
         slots: &mut [u8],
+        marks: &mut [u8],
         table: &mut [Summary],
     ) -> Answer<Replay> {
         // SAFETY: as in `command`.
         let reply = unsafe {
             berth_replay(
                 value,
+                names,
                 file.as_ptr(),
                 file.len(),
                 rows.as_mut_ptr(),
@@ -338,6 +367,8 @@ pub mod lent {
                 killers.len(),
                 slots.as_mut_ptr(),
                 slots.len(),
+                marks.as_mut_ptr(),
+                marks.len(),
                 table.as_mut_ptr(),
                 table.len(),
             )
@@ -351,15 +382,17 @@ pub mod lent {
     /// A fresh board, whatever the memory held: a file without commands is replayed. Where a length is refused, all is as it was.
     pub fn fresh_board(
         value: &mut Value,
+        names: &mut [Name; 2],
         rows: &mut [u8],
         killers: &mut [u8],
         slots: &mut [u8],
+        marks: &mut [u8],
         table: &mut [Summary],
     ) -> Answer<()> {
-        replay(value, &[], rows, killers, slots, table).map(|_| ())
+        replay(value, names, &[], rows, killers, slots, marks, table).map(|_| ())
     }
 
-    /// What the questions are asked of.
+    /// What the questions are asked of. The names, the marks and the table have no part in it.
     #[derive(Clone, Copy)]
     pub struct Memory<'a> {
         pub value: &'a Value,
@@ -434,10 +467,11 @@ pub mod lent {
 /// A board with its memory.
 #[derive(Clone)]
 pub struct Board {
-    value: Value,
+    value: MarkedValue,
     rows: Box<[u8]>,
     killers: Box<[u8]>,
     slots: Box<[u8]>,
+    marks: Box<[u8]>,
     table: [Summary; RECORDS],
 }
 
@@ -463,6 +497,7 @@ impl Board {
             rows: zeros(ROWS),
             killers: zeros(KILLERS),
             slots: zeros(SLOTS),
+            marks: zeros(MARKS),
             table: [Summary::default(); RECORDS],
         };
         board.replay(&[]).expect("a board's memory is of its lengths");
@@ -471,15 +506,17 @@ impl Board {
 
     /// A command by its bytes.
     pub fn command(&mut self, bytes: &[u8]) -> Answer<Report> {
-        lent::command(&mut self.value, bytes, &mut self.rows, &mut self.killers, &mut self.slots, &mut self.table)
+        let Board { value: MarkedValue { value, names }, rows, killers, slots, marks, table } = self;
+        lent::command(value, names, bytes, rows, killers, slots, marks, table)
     }
 
     /// Becomes a fresh board and runs a file of commands, up to the first that cannot be read. A file of over 32,768 bytes is refused, and changes nothing.
     pub fn replay(&mut self, file: &[u8]) -> Answer<Replay> {
-        lent::replay(&mut self.value, file, &mut self.rows, &mut self.killers, &mut self.slots, &mut self.table)
+        let Board { value: MarkedValue { value, names }, rows, killers, slots, marks, table } = self;
+        lent::replay(value, names, file, rows, killers, slots, marks, table)
     }
 
-    /// Kind 1: a new board with these slot counts, of at most 32 calls; rules and draft are gone.
+    /// Kind 1: a new board with these slot counts, of at most 32 calls; rules, draft and both marks are gone.
     pub fn start(&mut self, counts: &[u8]) -> Answer<Report> {
         self.command(&filled(&[1], counts, 33, 0))
     }
@@ -510,6 +547,16 @@ impl Board {
         self.command(&[6, form as u8, number, first, second, gap])
     }
 
+    /// Kind 7: the board is kept under the name, 0 or 1, in place of any other; the draft stays.
+    pub fn mark(&mut self, name: u8) -> Answer<Report> {
+        self.command(&[7, name])
+    }
+
+    /// Kind 8: the board that is kept under the name is brought back, without a draft. It stays kept.
+    pub fn back(&mut self, name: u8) -> Answer<Report> {
+        self.command(&[8, name])
+    }
+
     /// The figures of a call; zeros where it is not on the board.
     pub fn summary(&self, call: u8) -> Summary {
         self.table.get(call as usize).copied().unwrap_or_default()
@@ -520,9 +567,19 @@ impl Board {
         &self.table
     }
 
-    /// The value and the buffers, to look at.
+    /// The board's value and the three buffers that questions are asked of, to look at.
     pub fn memory(&self) -> lent::Memory<'_> {
-        lent::Memory { value: &self.value, rows: &self.rows, killers: &self.killers, slots: &self.slots }
+        lent::Memory { value: &self.value.value, rows: &self.rows, killers: &self.killers, slots: &self.slots }
+    }
+
+    /// All that is held beside the buffers, to look at.
+    pub fn value(&self) -> &MarkedValue {
+        &self.value
+    }
+
+    /// The bytes of both marks, to look at.
+    pub fn marks(&self) -> &[u8] {
+        &self.marks
     }
 
     /// The open slots of a call.

@@ -1,5 +1,6 @@
-/* The worked session of docs/SCOPE.md on a board of a C host, and a gap rule behind it: a line for each command, as the sheet program writes it, and after puts
-   and lifts the open slots of every call and its figures from the summary table. What was refused, and why, goes to standard error. */
+/* The worked session of docs/SCOPE.md on a board of a C host, and behind it a gap rule that is tried between a mark and a back: a line for each command, as the
+   sheet program writes it, and after puts, lifts and the back the open slots of every call and its figures from the summary table. What was refused, and why, goes
+   to standard error. */
 #include "berth.h"
 #include <stdio.h>
 
@@ -47,9 +48,12 @@ int main(void) {
     print_reply(BERTH_LIFT, berth_board_lift(&board, 5));
     print_calls(&board);
     print_reply(BERTH_LIFT, berth_board_lift(&board, 5));
+    print_reply(BERTH_MARK, berth_board_mark(&board, 0));
     print_reply(BERTH_LIFT, berth_board_lift(&board, 0));
     print_reply(BERTH_GAP, berth_board_gap(&board, BERTH_BEFORE, 0, 0, 1, 1));
     print_reply(BERTH_PUT, berth_board_put(&board));
+    print_calls(&board);
+    print_reply(BERTH_BACK, berth_board_back(&board, 0));
     print_calls(&board);
     printf("end\n");
     return 0;

@@ -1,5 +1,6 @@
-//! The worked session of docs/SCOPE.md on a board of a Rust host, and a gap rule behind it: a line for each command, as the sheet program writes it, and after
-//! puts and lifts the open slots of every call and its figures from the summary table. What was refused, and why, goes to standard error.
+//! The worked session of docs/SCOPE.md on a board of a Rust host, and behind it a gap rule that is tried between a mark and a back: a line for each command, as
+//! the sheet program writes it, and after puts, lifts and the back the open slots of every call and its figures from the summary table. What was refused, and
+//! why, goes to standard error.
 mod berth;
 
 use berth::{Answer, Board, Form, Report};
@@ -44,9 +45,12 @@ fn main() {
     print_answer(5, board.lift(5));
     print_calls(&board);
     print_answer(5, board.lift(5));
+    print_answer(7, board.mark(0));
     print_answer(5, board.lift(0));
     print_answer(6, board.gap(Form::Before, 0, 0, 1, 1));
     print_answer(4, board.put());
+    print_calls(&board);
+    print_answer(8, board.back(0));
     print_calls(&board);
     println!("end");
 }

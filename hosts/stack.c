@@ -1,6 +1,6 @@
 /* Measures the stack that the library's functions need, which no contract speaks of: a thread paints its stack, sends a command or asks the questions, and
-   looks how deep the paint is gone. The board is the largest, and its commands strike, reopen and refuse; in the end they are replayed as a file. Fails where it is
-   more than the header says. */
+   looks how deep the paint is gone. The board is the largest, and its commands strike, reopen, keep boards, bring them back, and refuse; in the end they are
+   replayed as a file. Fails where it is more than the header says. */
 #define _XOPEN_SOURCE 700
 #include "berth.h"
 #include <pthread.h>
@@ -77,11 +77,23 @@ static void gap_rule(uint8_t form, uint8_t gap) {
     command(berth_make_lift(63));
 }
 
-/* Rules of four neighbours, twice over; beside them gap rules one by one, and then a rule that leaves a single slot of each call, put and lifted. */
+/* A back, a mark and a back again under each name, and under one that there is not. The first is refused where nothing is kept. */
+static void back_and_mark(void) {
+    for (uint8_t name = 0; name < 3; name++) {
+        command(berth_make_back(name));
+        command(berth_make_mark(name));
+        command(berth_make_back(name));
+    }
+}
+
+/* Rules of four neighbours, twice over; beside them gap rules one by one, and then a rule that leaves a single slot of each call, put and lifted. The board without
+   this rule is kept, and brought back in the end, when nothing is in force. */
 static void *session(void *nothing) {
     uint8_t counts[33];
     memset(counts, 32, sizeof counts);
     command(berth_make_lift(0));
+    command(berth_make_mark(0));
+    command(berth_make_back(0));
     command(berth_make_board(counts, 32));
     for (uint8_t number = 0; number < 63; number++) {
         uint8_t calls[4];
@@ -93,11 +105,14 @@ static void *session(void *nothing) {
         gap_rule(form, 0);
         gap_rule(form, 25);
     }
+    back_and_mark();
     rule(63, (const uint8_t[]){0}, 1, 1);
     questions(0);
     command(berth_make_put());
     for (int number = 63; number >= 0; number--)
         command(berth_make_lift((uint8_t)number));
+    questions(0);
+    back_and_mark();
     questions(0);
     command(berth_make_board(counts, 33));
     replay();

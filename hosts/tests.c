@@ -33,18 +33,22 @@ static void same_fence(const struct fenced *fenced) {
         same("byte behind a board", fenced->behind[i], 0xa5);
 }
 
-/* A board that was cleared is a fresh one, whatever it held. */
+/* A board that was cleared is a fresh one, whatever it held. The bytes of its marks stay as they were. */
 static void clear(struct berth_board *board) {
-    struct berth_value fresh = berth_fresh();
+    struct berth_marked_value fresh = berth_fresh();
     memset(board, 7, sizeof *board);
     same("clear", berth_board_clear(board), 1);
-    same("fresh value", memcmp(&board->value, &fresh, sizeof fresh), 0);
+    same("fresh value and names", memcmp(&board->value, &fresh, sizeof fresh), 0);
     for (int i = 0; i < BERTH_ROWS; i++)
         same("fresh row byte", board->rows[i], 255);
     for (int i = 0; i < BERTH_KILLERS; i++)
         same("fresh killer byte", board->killers[i], 255);
     for (int i = 0; i < BERTH_SLOTS; i++)
         same("fresh slot byte", board->slots[i], 254);
+    for (int i = 0; i < BERTH_MARKS; i++)
+        same("byte of the marks beside a fresh board", board->marks[i], 7);
+    for (int name = 0; name < 2; name++)
+        same("kept beside a fresh board", board->value.names[name].kept, 0);
     for (int i = 0; i < BERTH_RECORDS; i++)
         same_record("fresh record", board->table[i], 0, 0, 0);
     same("open slots without a board", berth_board_open_slots(board, 0).number, BERTH_NO_BOARD);
@@ -96,7 +100,7 @@ static void same_bytes(const char *what, struct berth_command_bytes made, const 
 static void build(void) {
     static const uint8_t fields[34] = {3, 1, 2, 0}, board[33] = {1, 3, 1, 2}, whole[33] = {1, 3, 1, 2, 0};
     static const uint8_t head[7] = {2, 9, 2, 3, 1, 255, 255}, row[5] = {3, 3, 1, 2, 255}, put[1] = {4}, lift[2] = {5, 63};
-    static const uint8_t gap[6] = {6, 2, 9, 31, 0, 5};
+    static const uint8_t gap[6] = {6, 2, 9, 31, 0, 5}, mark[2] = {7, 1}, back[2] = {8, 255};
     same_bytes("board's bytes", berth_make_board(fields, 3), board, 33);
     same_bytes("bytes of a board of 32 calls", berth_make_board(fields, 32), whole, 33);
     same_bytes("head's bytes", berth_make_head(9, fields, 2), head, 7);
@@ -104,6 +108,8 @@ static void build(void) {
     same_bytes("put's bytes", berth_make_put(), put, 1);
     same_bytes("lift's bytes", berth_make_lift(63), lift, 2);
     same_bytes("gap's bytes", berth_make_gap(BERTH_APART, 9, 31, 0, 5), gap, 6);
+    same_bytes("mark's bytes", berth_make_mark(1), mark, 2);
+    same_bytes("back's bytes", berth_make_back(255), back, 2);
     same("a board of 33 calls", (long)berth_make_board(fields, 33).length, 34);
     same("a head of five calls", (long)berth_make_head(9, fields, 5).length, 8);
     same("a row of five slots", (long)berth_make_row(fields, 5).length, 6);
@@ -132,14 +138,14 @@ static void ask(const struct berth_board *board) {
     same("rule not in force", berth_board_support(board, 9, 0, 0).number, BERTH_NOT_IN_FORCE);
 }
 
-/* A refusal leaves the value; a buffer of another length is one. */
+/* A refusal leaves value and names; a buffer of another length is one. */
 static void refuse(struct berth_board *board) {
     static const uint8_t lift[2] = {5, 5}, counts[33] = {1};
-    struct berth_value before = board->value;
-    struct berth_command_reply reply = berth_command(&board->value, lift, 2, board->rows, BERTH_ROWS - 1, board->killers, BERTH_KILLERS, board->slots,
-                                                     BERTH_SLOTS, board->table, BERTH_RECORDS);
+    struct berth_marked_value before = board->value;
+    struct berth_command_reply reply = berth_command(BERTH_HELD(board), lift, 2, board->rows, BERTH_ROWS - 1, board->killers, BERTH_KILLERS, board->slots,
+                                                     BERTH_SLOTS, board->marks, BERTH_MARKS, board->table, BERTH_RECORDS);
     same("short rows", reply.number, BERTH_BUFFER_LENGTH);
-    same("value", memcmp(&board->value, &before, sizeof before), 0);
+    same("value and names", memcmp(&board->value, &before, sizeof before), 0);
     same("body cut short", berth_board_command(board, lift, 1).number, BERTH_BODY_LENGTH);
     same("no byte", berth_board_command(board, lift, 0).number, BERTH_UNKNOWN_KIND);
     same("too many counts", berth_board_start(board, counts, 33).number, BERTH_BODY_LENGTH);
@@ -161,7 +167,7 @@ static void put_gap(struct berth_board *board, uint8_t form, uint8_t gap, const 
     struct berth_command_reply reply = berth_board_gap(board, form, 7, 0, 1, gap);
     same("gap", reply.number, 0);
     same("its S, R and T", (long)(reply.struck + reply.reopened + reply.touched), 0);
-    before.value.draft = board->value.draft;
+    before.value.value.draft = board->value.value.draft;
     same("all but the draft", memcmp(board, &before, sizeof before), 0);
     reply = berth_board_put(board);
     same("put of a gap rule", reply.number, 0);
@@ -221,7 +227,7 @@ static void refuse_gaps(struct berth_board *board) {
     }
     same("gap cut short", berth_board_command(board, made.bytes, 5).number, BERTH_BODY_LENGTH);
     same("gap that is too long", berth_board_command(board, made.bytes, 7).number, BERTH_BODY_LENGTH);
-    same("table of a gap", berth_command(&board->value, made.bytes, 6, BERTH_BUFFERS(board), board->table, 31).number, BERTH_TABLE_LENGTH);
+    same("table of a gap", berth_command(BERTH_HELD(board), made.bytes, 6, BERTH_BUFFERS_AND_MARKS(board), board->table, 31).number, BERTH_TABLE_LENGTH);
     same("board after them", memcmp(board, &before, sizeof before), 0);
     same("put of the old draft", (long)berth_board_put(board).struck, 8);
     same("its open slot", berth_board_open_slots(board, 2).mask, 1 << 5);
@@ -232,9 +238,15 @@ static void refuse_gaps(struct berth_board *board) {
     same("all of them fit", berth_board_open_slots(board, 0).mask, 255);
 }
 
-/* A table between bytes that nobody may write, with room for a record more. */
+/* A value, names, marks and a table between bytes that nobody may write; marks and table with room for one more. */
 struct guarded {
     uint8_t before[64];
+    struct berth_name names[2];
+    uint8_t behind_names[64];
+    struct berth_value value;
+    uint8_t behind_value[64];
+    uint8_t marks[BERTH_MARKS + 1];
+    uint8_t between[64];
     struct berth_summary table[BERTH_RECORDS + 1];
     uint8_t behind[64];
 };
@@ -242,8 +254,12 @@ struct guarded {
 static void same_guard(const char *what, const struct guarded *guarded) {
     for (int i = 0; i < 64; i++) {
         same(what, guarded->before[i], 0xa5);
+        same(what, guarded->behind_names[i], 0xa5);
+        same(what, guarded->behind_value[i], 0xa5);
+        same(what, guarded->between[i], 0xa5);
         same(what, guarded->behind[i], 0xa5);
     }
+    same(what, guarded->marks[BERTH_MARKS], 0xa5);
     same_record(what, guarded->table[BERTH_RECORDS], 0xa5, 0xa5, 0xa5);
 }
 
@@ -252,23 +268,67 @@ static void refuse_table(struct berth_board *board) {
     static const uint8_t lift[2] = {5, 5}, long_file[BERTH_FILE + 1];
     static const size_t lengths[] = {31, 33, 0};
     static struct berth_board before;
-    struct guarded lent, all;
+    static struct guarded lent, all;
     memset(&all, 0xa5, sizeof all);
     lent = all;
     before = *board;
     for (int i = 0; i < 3; i++) {
         size_t n = lengths[i];
-        struct berth_command_reply reply = berth_command(&board->value, lift, 2, BERTH_BUFFERS(board), lent.table, n);
+        struct berth_command_reply reply = berth_command(BERTH_HELD(board), lift, 2, BERTH_BUFFERS_AND_MARKS(board), lent.table, n);
         same("table of another length", reply.number, BERTH_TABLE_LENGTH);
         same("S, R and T", (long)(reply.struck + reply.reopened + reply.touched), 0);
-        same("table before the kind", berth_command(&board->value, lift, 0, BERTH_BUFFERS(board), lent.table, n).number, BERTH_TABLE_LENGTH);
-        same("table before the body", berth_command(&board->value, lift, 1, BERTH_BUFFERS(board), lent.table, n).number, BERTH_TABLE_LENGTH);
-        reply = berth_command(&board->value, lift, 2, board->rows, BERTH_ROWS, board->killers, BERTH_KILLERS, board->slots, 0, lent.table, n);
+        reply = berth_command(BERTH_HELD(board), lift, 0, BERTH_BUFFERS_AND_MARKS(board), lent.table, n);
+        same("table before the kind", reply.number, BERTH_TABLE_LENGTH);
+        reply = berth_command(BERTH_HELD(board), lift, 1, BERTH_BUFFERS_AND_MARKS(board), lent.table, n);
+        same("table before the body", reply.number, BERTH_TABLE_LENGTH);
+        reply = berth_command(BERTH_HELD(board), lift, 2, board->rows, BERTH_ROWS, board->killers, BERTH_KILLERS, board->slots, 0, board->marks, BERTH_MARKS,
+                              lent.table, n);
         same("buffer before the table", reply.number, BERTH_BUFFER_LENGTH);
-        same("table of a file", berth_replay(&board->value, lift, 2, BERTH_BUFFERS(board), lent.table, n).number, BERTH_TABLE_LENGTH);
-        same("table before the file", berth_replay(&board->value, long_file, sizeof long_file, BERTH_BUFFERS(board), lent.table, n).number, BERTH_TABLE_LENGTH);
-        same("table of a fresh board", berth_fresh_board(&board->value, BERTH_BUFFERS(board), lent.table, n).number, BERTH_TABLE_LENGTH);
+        struct berth_replay_reply ran = berth_replay(BERTH_HELD(board), lift, 2, BERTH_BUFFERS_AND_MARKS(board), lent.table, n);
+        same("table of a file", ran.number, BERTH_TABLE_LENGTH);
+        ran = berth_replay(BERTH_HELD(board), long_file, sizeof long_file, BERTH_BUFFERS_AND_MARKS(board), lent.table, n);
+        same("table before the file", ran.number, BERTH_TABLE_LENGTH);
+        ran = berth_fresh_board(BERTH_HELD(board), BERTH_BUFFERS_AND_MARKS(board), lent.table, n);
+        same("table of a fresh board", ran.number, BERTH_TABLE_LENGTH);
         same("table that was lent", memcmp(&lent, &all, sizeof all), 0);
+        same("board", memcmp(board, &before, sizeof before), 0);
+    }
+}
+
+/* Marks of another length are refused as any buffer is, with every kind: before table, command and file are looked at. Nothing changes then. */
+static void refuse_marks(struct berth_board *board) {
+    static const size_t lengths[] = {0, BERTH_MARKS / 2, BERTH_MARKS - 1, BERTH_MARKS + 1};
+    static const uint8_t long_file[BERTH_FILE + 1];
+    static struct berth_board before;
+    static struct guarded lent, all;
+    struct berth_command_bytes made[] = {
+        berth_make_board((const uint8_t[]){2, 2}, 2), berth_make_head(9, (const uint8_t[]){1}, 1), berth_make_row((const uint8_t[]){1}, 1), berth_make_put(),
+        berth_make_lift(5), berth_make_gap(BERTH_SAME, 9, 0, 1, 0), berth_make_mark(0), berth_make_back(0), berth_make_lift(99),
+    };
+    memset(&all, 0xa5, sizeof all);
+    lent = all;
+    before = *board;
+    for (size_t i = 0; i < sizeof lengths / sizeof *lengths; i++) {
+        size_t n = lengths[i];
+        struct berth_replay_reply ran;
+        for (size_t k = 0; k < sizeof made / sizeof *made; k++) {
+            const uint8_t *bytes = made[k].bytes;
+            size_t length = made[k].length;
+            struct berth_command_reply reply = berth_command(BERTH_HELD(board), bytes, length, BERTH_BUFFERS(board), lent.marks, n, lent.table, BERTH_RECORDS);
+            same("marks of another length", reply.number, BERTH_BUFFER_LENGTH);
+            same("S, R and T", (long)(reply.struck + reply.reopened + reply.touched), 0);
+            reply = berth_command(BERTH_HELD(board), bytes, length, BERTH_BUFFERS(board), lent.marks, n, lent.table, 31);
+            same("marks before the table", reply.number, BERTH_BUFFER_LENGTH);
+            reply = berth_command(BERTH_HELD(board), bytes, 0, BERTH_BUFFERS(board), lent.marks, n, lent.table, BERTH_RECORDS);
+            same("marks before the kind", reply.number, BERTH_BUFFER_LENGTH);
+        }
+        ran = berth_replay(BERTH_HELD(board), made[0].bytes, made[0].length, BERTH_BUFFERS(board), lent.marks, n, lent.table, BERTH_RECORDS);
+        same("marks of a file", ran.number, BERTH_BUFFER_LENGTH);
+        ran = berth_replay(BERTH_HELD(board), long_file, sizeof long_file, BERTH_BUFFERS(board), lent.marks, n, lent.table, 31);
+        same("marks before the file", ran.number, BERTH_BUFFER_LENGTH);
+        ran = berth_fresh_board(BERTH_HELD(board), BERTH_BUFFERS(board), lent.marks, n, lent.table, BERTH_RECORDS);
+        same("marks of a fresh board", ran.number, BERTH_BUFFER_LENGTH);
+        same("marks that were lent", memcmp(&lent, &all, sizeof all), 0);
         same("board", memcmp(board, &before, sizeof before), 0);
     }
 }
@@ -276,15 +336,15 @@ static void refuse_table(struct berth_board *board) {
 /* What the table held has no effect: questions leave it, a refused command too, and an accepted one makes it current. */
 static void alter_table(struct berth_board *board) {
     static const uint8_t head[7] = {2, 9, 1, 1, 255, 255, 255}, put_by_mistake[2] = {4, 4};
-    struct guarded lent, all;
+    static struct guarded lent, all;
     memset(&all, 0xa5, sizeof all);
     lent = all;
     memset(board->table, 0xa5, sizeof board->table);
     ask(board);
     same("table after questions", memcmp(board->table, all.table, sizeof board->table), 0);
-    same("refused", berth_command(&board->value, put_by_mistake, 2, BERTH_BUFFERS(board), lent.table, BERTH_RECORDS).number, BERTH_BODY_LENGTH);
+    same("refused", berth_command(BERTH_HELD(board), put_by_mistake, 2, BERTH_BUFFERS_AND_MARKS(board), lent.table, BERTH_RECORDS).number, BERTH_BODY_LENGTH);
     same("table after a refusal", memcmp(&lent, &all, sizeof all), 0);
-    same("head", berth_command(&board->value, head, 7, BERTH_BUFFERS(board), lent.table, BERTH_RECORDS).number, 0);
+    same("head", berth_command(BERTH_HELD(board), head, 7, BERTH_BUFFERS_AND_MARKS(board), lent.table, BERTH_RECORDS).number, 0);
     same_table("table after a head", lent.table);
     same_guard("beside the table", &lent);
     same("head", berth_board_command(board, head, 7).number, 0);
@@ -300,52 +360,268 @@ static void alter_table(struct berth_board *board) {
     memset(board->table, 0xa5, sizeof board->table);
     same("gap", berth_board_gap(board, BERTH_SAME, 9, 0, 1, 0).number, 0);
     same_table("board's table after a gap", board->table);
+    memset(board->table, 0xa5, sizeof board->table);
+    same("mark", berth_board_mark(board, 0).number, 0);
+    same_table("board's table after a mark", board->table);
+    memset(board->table, 0xa5, sizeof board->table);
+    same("back of nothing", berth_board_back(board, 1).number, BERTH_NOTHING_KEPT);
+    same("board's table after a refused back", memcmp(board->table, all.table, sizeof board->table), 0);
+    same("back", berth_board_back(board, 0).number, 0);
+    same_table("board's table after a back", board->table);
 }
 
-/* A command on a board of any contents writes nothing beside the table that it is lent; refused, it writes nothing at all. */
-static void obey_altered(struct berth_board *board, struct berth_command_bytes made) {
+/* What an accepted mark leaves of a board, and what a back: whatever the board holds. */
+static void keep_under(struct berth_board *board, uint8_t name) {
+    uint8_t *half = board->marks + BERTH_MARKS / 2 * name;
+    memcpy(half, board->rows, BERTH_ROWS);
+    memcpy(half + BERTH_ROWS, board->killers, BERTH_KILLERS);
+    memcpy(half + BERTH_ROWS + BERTH_KILLERS, board->slots, BERTH_SLOTS);
+    board->value.names[name].kept = 1;
+    board->value.names[name].heads = board->value.value.heads;
+}
+
+static void bring_back(struct berth_board *board, uint8_t name) {
+    const uint8_t *half = board->marks + BERTH_MARKS / 2 * name;
+    memcpy(board->rows, half, BERTH_ROWS);
+    memcpy(board->killers, half + BERTH_ROWS, BERTH_KILLERS);
+    memcpy(board->slots, half + BERTH_ROWS + BERTH_KILLERS, BERTH_SLOTS);
+    board->value.value.heads = board->value.names[name].heads;
+    board->value.value.draft = berth_fresh().value.draft;
+}
+
+/* A mark on a board whose table is current: the board under the name, and nothing else, is new. */
+static void same_mark(struct berth_board *board, uint8_t name) {
+    static struct berth_board wanted;
+    wanted = *board;
+    keep_under(&wanted, name);
+    struct berth_command_reply reply = berth_board_mark(board, name);
+    same("mark", reply.number, 0);
+    same("its S, R and T", (long)(reply.struck + reply.reopened + reply.touched), 0);
+    same("board after a mark", memcmp(board, &wanted, sizeof wanted), 0);
+}
+
+/* A back strikes and reopens so many slots. What was kept is there again, with this table and without a draft, and stays kept. */
+static void same_back(struct berth_board *board, uint8_t name, long struck, long reopened, const struct berth_summary *table) {
+    static struct berth_board wanted;
+    wanted = *board;
+    bring_back(&wanted, name);
+    memcpy(wanted.table, table, sizeof wanted.table);
+    struct berth_command_reply reply = berth_board_back(board, name);
+    same("back", reply.number, 0);
+    same("its S", (long)reply.struck, struck);
+    same("its R", (long)reply.reopened, reopened);
+    same("its T", (long)reply.touched, struck + reopened);
+    same("board after a back", memcmp(board, &wanted, sizeof wanted), 0);
+    same("put of a draft from before the back", berth_board_put(board).number, BERTH_NO_DRAFT);
+}
+
+/* A refused mark or back leaves all as it was. */
+static void same_refusal(struct berth_board *board, struct berth_command_bytes made, uint8_t number) {
     static struct berth_board before;
-    struct guarded lent, was;
-    memset(&was, 0xa5, sizeof was);
-    lent = was;
     before = *board;
-    uint8_t number = berth_command(&board->value, made.bytes, made.length, BERTH_BUFFERS(board), lent.table, BERTH_RECORDS).number;
-    same_guard("beside the table of an altered board", &lent);
-    same("an altered board's own table", memcmp(board->table, before.table, sizeof board->table), 0);
-    if (number != 0) {
-        same("an altered board that refuses", memcmp(board, &before, sizeof before), 0);
-        same("its table", memcmp(&lent, &was, sizeof was), 0);
+    struct berth_command_reply reply = berth_board_obey(board, made);
+    same("refused mark or back", reply.number, number);
+    same("its S, R and T", (long)(reply.struck + reply.reopened + reply.touched), 0);
+    same("board after it", memcmp(board, &before, sizeof before), 0);
+}
+
+/* Without a board, with every name that is over 1, and where nothing is kept: each refusal comes before the next. */
+static void refuse_names(struct berth_board *board) {
+    same("clear", berth_board_clear(board), 1);
+    for (int name = 0; name < 256; name++) {
+        same_refusal(board, berth_make_mark((uint8_t)name), BERTH_NO_BOARD);
+        same_refusal(board, berth_make_back((uint8_t)name), BERTH_NO_BOARD);
     }
-    if (made.bytes[0] == BERTH_BOARD) {
+    make_board(board);
+    same("gap", berth_board_gap(board, BERTH_SAME, 9, 0, 1, 0).number, 0);
+    same_refusal(board, berth_make_back(0), BERTH_NOTHING_KEPT);
+    same_refusal(board, berth_make_back(1), BERTH_NOTHING_KEPT);
+    for (int name = 2; name < 256; name++) {
+        same_refusal(board, berth_make_mark((uint8_t)name), BERTH_NAME_OVER_1);
+        same_refusal(board, berth_make_back((uint8_t)name), BERTH_NAME_OVER_1);
+    }
+    for (uint8_t kind = BERTH_MARK; kind <= BERTH_BACK; kind++) {
+        same_refusal(board, berth_make_blank(kind, 1, 0), BERTH_BODY_LENGTH);
+        same_refusal(board, berth_make_blank(kind, 3, 0), BERTH_BODY_LENGTH);
+    }
+}
+
+/* Two boards are kept and brought back by turns. The first is that of make_board; on the second it is slot 0 of each call that is struck. */
+static void keep_boards(struct berth_board *board) {
+    static struct berth_board first, second;
+    same("clear", berth_board_clear(board), 1);
+    memset(board->marks, 0xa5, sizeof board->marks);
+    make_board(board);
+    same("head", berth_board_head(board, 9, (const uint8_t[]){1}, 1).number, 0);
+    same("row", berth_board_row(board, (const uint8_t[]){1}, 1).number, 0);
+    first = *board;
+    same_mark(board, 0);
+    same_refusal(board, berth_make_back(1), BERTH_NOTHING_KEPT);
+    same("put of the draft that a mark leaves", (long)berth_board_put(board).struck, 2);
+    same("lift", (long)berth_board_lift(board, 5).reopened, 2);
+    same("gap", berth_board_gap(board, BERTH_SAME, 7, 0, 1, 0).number, 0);
+    second = *board;
+    same_mark(board, 1);
+    same_back(board, 0, 2, 2, first.table);
+    ask(board);
+    same_back(board, 0, 0, 0, first.table);
+    same_back(board, 1, 2, 2, second.table);
+    same("killer on the second board", berth_board_row_state(board, 0, 0).killer, second.killers[0]);
+    same("rule of the first board", berth_board_lift(board, 5).number, BERTH_NOT_IN_FORCE);
+    same("rule of the second board", (long)berth_board_lift(board, 9).reopened, 2);
+    same_back(board, 0, 2, 0, first.table);
+    same("lift", (long)berth_board_lift(board, 5).reopened, 2);
+    same_back(board, 1, 2, 0, second.table);
+    same_back(board, 0, 2, 2, first.table);
+    same_mark(board, 1);
+    same("mark in place of another", memcmp(board->marks, board->marks + BERTH_MARKS / 2, BERTH_MARKS / 2), 0);
+    same_back(board, 1, 0, 0, first.table);
+}
+
+/* Both names of keep_boards are forgotten with a new board, unless it is refused; another with a file's fresh board. The bytes of the marks stay. */
+static void forget_boards(struct berth_board *board) {
+    static struct berth_board before;
+    struct berth_marked_value fresh = berth_fresh();
+    before = *board;
+    same("no counts", berth_board_start(board, NULL, 0).number, BERTH_BAD_COUNTS);
+    same_back(board, 0, 0, 0, before.table);
+    same_back(board, 1, 0, 0, before.table);
+    same("new board", berth_board_start(board, (const uint8_t[]){2, 2}, 2).number, 0);
+    same("names beside a new board", memcmp(board->value.names, fresh.names, sizeof fresh.names), 0);
+    same("their bytes", memcmp(board->marks, before.marks, sizeof before.marks), 0);
+    same_refusal(board, berth_make_back(0), BERTH_NOTHING_KEPT);
+    same_refusal(board, berth_make_back(1), BERTH_NOTHING_KEPT);
+    same_mark(board, 1);
+    before = *board;
+    struct berth_command_bytes made = berth_make_board((const uint8_t[]){2, 2}, 2);
+    same("a file", berth_board_replay(board, made.bytes, made.length).number, 0);
+    same("names beside a file's board", memcmp(board->value.names, fresh.names, sizeof fresh.names), 0);
+    same("their bytes", memcmp(board->marks, before.marks, sizeof before.marks), 0);
+    same_refusal(board, berth_make_back(1), BERTH_NOTHING_KEPT);
+}
+
+/* A command on a board of any contents writes nothing beside the value, the names, the marks and the table that it is lent, and of names and marks no more than
+   it has to; refused, it writes nothing at all. */
+static void obey_altered(struct berth_board *board, struct berth_command_bytes made) {
+    static struct berth_board wanted;
+    static struct guarded lent, was;
+    uint8_t kind = made.bytes[0], name = made.bytes[1];
+    memset(&was, 0xa5, sizeof was);
+    was.value = board->value.value;
+    memcpy(was.names, board->value.names, sizeof was.names);
+    memcpy(was.marks, board->marks, BERTH_MARKS);
+    lent = was;
+    wanted = *board;
+    uint8_t number =
+        berth_command(&lent.value, lent.names, made.bytes, made.length, BERTH_BUFFERS(board), lent.marks, BERTH_MARKS, lent.table, BERTH_RECORDS).number;
+    same_guard("beside what an altered board is lent", &lent);
+    same("an altered board's own value and names", memcmp(&board->value, &wanted.value, sizeof board->value), 0);
+    same("an altered board's own marks", memcmp(board->marks, wanted.marks, sizeof board->marks), 0);
+    same("an altered board's own table", memcmp(board->table, wanted.table, sizeof board->table), 0);
+    board->value.value = lent.value;
+    memcpy(board->value.names, lent.names, sizeof lent.names);
+    memcpy(board->marks, lent.marks, BERTH_MARKS);
+    if (number != 0) {
+        same("an altered board that refuses", memcmp(board, &wanted, sizeof wanted), 0);
+        same("its table", memcmp(lent.table, was.table, sizeof was.table), 0);
+    } else if (kind == BERTH_MARK) {
+        keep_under(&wanted, name);
+        same("a mark of an altered board", memcmp(board, &wanted, sizeof wanted), 0);
+    } else if (kind == BERTH_BACK) {
+        bring_back(&wanted, name);
+        same("a back on altered memory", memcmp(board, &wanted, sizeof wanted), 0);
+    } else {
+        struct berth_marked_value left = kind == BERTH_BOARD ? berth_fresh() : wanted.value;
+        same("names of an altered board", memcmp(board->value.names, left.names, sizeof left.names), 0);
+        same("marks of an altered board", memcmp(board->marks, wanted.marks, sizeof board->marks), 0);
+    }
+    if (kind == BERTH_BOARD) {
         same("a new board on altered memory", number, 0);
+        same("kept beside it", board->value.names[0].kept + board->value.names[1].kept, 0);
         same_record("its record of call 1", lent.table[1], 2, 0, 0);
         same_record("its record of call 2", lent.table[2], 0, 0, 0);
     }
 }
 
+/* The questions on a board of any contents write nothing. */
+static void ask_altered(const struct berth_board *board) {
+    static const uint8_t numbers[] = {0, 1, 31, 63, 255};
+    static struct berth_board before;
+    before = *board;
+    for (size_t i = 0; i < sizeof numbers; i++) {
+        uint8_t number = numbers[i];
+        berth_board_open_slots(board, number);
+        berth_board_slot_state(board, number, 31);
+        berth_board_row_state(board, number, 63);
+        berth_board_row_bytes(board, number, 63);
+        berth_board_support(board, number, 3, 31);
+    }
+    same("an altered board that is asked", memcmp(board, &before, sizeof before), 0);
+}
+
+enum { COMMANDS = 22 };
+
+/* Commands for altered boards: all kinds, with marks and backs between them. */
+static void make_any(struct berth_command_bytes *made) {
+    const struct berth_command_bytes all[COMMANDS] = {
+        berth_make_head(0, (const uint8_t[]){0}, 1), berth_make_row((const uint8_t[]){1}, 1), berth_make_put(), berth_make_lift(0),
+        berth_make_back(1), berth_make_put(), berth_make_lift(63), berth_make_mark(0),
+        berth_make_gap(BERTH_BEFORE, 63, 0, 31, 22), berth_make_gap(BERTH_APART, 0, 31, 30, 0), berth_make_gap(BERTH_SAME, 1, 2, 3, 200),
+        berth_make_gap(255, 255, 255, 255, 255), berth_make_mark(2), berth_make_back(255),
+        berth_make_gap(BERTH_SAME, 0, 1, 0, 0), berth_make_row((const uint8_t[]){3, 1}, 2), berth_make_put(), berth_make_mark(1),
+        berth_make_back(0), berth_make_lift(0), berth_make_back(1), berth_make_board((const uint8_t[]){2, 2}, 2),
+    };
+    memcpy(made, all, sizeof all);
+}
+
+static const uint8_t altered_bytes[] = {0, 1, 3, 4, 31, 32, 63, 64, 200, 254, 255};
+
 /* Each command on altered memory, and one after another. */
 static void alter_board(void) {
-    static const uint8_t bytes[] = {0, 1, 3, 4, 31, 32, 63, 64, 200, 254, 255};
     static struct fenced alone, chain;
-    struct berth_command_bytes made[] = {
-        berth_make_head(0, (const uint8_t[]){0}, 1), berth_make_row((const uint8_t[]){1}, 1), berth_make_put(), berth_make_lift(0),
-        berth_make_gap(BERTH_BEFORE, 63, 0, 31, 22), berth_make_gap(BERTH_APART, 0, 31, 30, 0), berth_make_gap(BERTH_SAME, 1, 2, 3, 200),
-        berth_make_gap(255, 255, 255, 255, 255),
-        berth_make_gap(BERTH_SAME, 0, 1, 0, 0), berth_make_row((const uint8_t[]){3, 1}, 2), berth_make_put(), berth_make_lift(0),
-        berth_make_board((const uint8_t[]){2, 2}, 2),
-    };
+    struct berth_command_bytes made[COMMANDS];
+    make_any(made);
     raise_fence(&alone);
     raise_fence(&chain);
-    for (size_t i = 0; i < sizeof bytes; i++) {
-        memset(&chain.board, bytes[i], sizeof chain.board);
-        for (size_t k = 0; k < sizeof made / sizeof *made; k++) {
-            memset(&alone.board, bytes[i], sizeof alone.board);
+    for (size_t i = 0; i < sizeof altered_bytes; i++) {
+        memset(&chain.board, altered_bytes[i], sizeof chain.board);
+        for (size_t k = 0; k < COMMANDS; k++) {
+            memset(&alone.board, altered_bytes[i], sizeof alone.board);
             obey_altered(&alone.board, made[k]);
             obey_altered(&chain.board, made[k]);
+            ask_altered(&chain.board);
         }
     }
     same_fence(&alone);
     same_fence(&chain);
+}
+
+/* The host alters the bytes of both marks, their names, or both: a back brings what it finds there, and commands on that board return and stay inside. */
+static void alter_marks(void) {
+    static struct fenced fenced;
+    struct berth_board *board = &fenced.board;
+    struct berth_command_bytes made[COMMANDS];
+    make_any(made);
+    raise_fence(&fenced);
+    for (size_t i = 0; i < sizeof altered_bytes; i++)
+        for (int part = 1; part <= 3; part++) {
+            same("clear", berth_board_clear(board), 1);
+            make_board(board);
+            same("mark", berth_board_mark(board, 0).number, 0);
+            same("mark", berth_board_mark(board, 1).number, 0);
+            if (part & 1)
+                memset(board->marks, altered_bytes[i], sizeof board->marks);
+            if (part & 2)
+                memset(board->value.names, altered_bytes[i], sizeof board->value.names);
+            ask(board);
+            obey_altered(board, berth_make_back(0));
+            ask_altered(board);
+            for (size_t k = 0; k < COMMANDS; k++) {
+                obey_altered(board, made[k]);
+                ask_altered(board);
+            }
+        }
+    same_fence(&fenced);
 }
 
 /* A file leaves what its commands leave one by one, up to one that cannot be read; one that is too long changes nothing. */
@@ -356,7 +632,7 @@ static void replay(struct berth_board *board) {
     struct berth_board *other = &fenced.board;
     struct berth_command_bytes made[] = {
         berth_make_lift(9), berth_make_board((const uint8_t[]){2, 2}, 2), berth_make_head(0, (const uint8_t[]){0}, 1), berth_make_row((const uint8_t[]){1}, 1),
-        berth_make_put(), berth_make_gap(BERTH_SAME, 1, 0, 1, 0),
+        berth_make_put(), berth_make_mark(0), berth_make_lift(0), berth_make_mark(1), berth_make_back(0), berth_make_gap(BERTH_SAME, 1, 0, 1, 0),
     };
     size_t length = 0;
     raise_fence(&fenced);
@@ -367,7 +643,7 @@ static void replay(struct berth_board *board) {
         berth_board_obey(other, made[i]);
     }
     struct berth_replay_reply reply = berth_board_replay(board, file, length);
-    same("commands run", (long)reply.ran, 6);
+    same("commands run", (long)reply.ran, 10);
     same("end of the file", reply.number, 0);
     same("board after the file", memcmp(board, other, sizeof *other), 0);
     same_record("record after the file", board->table[0], 1, 1, 1);
@@ -378,7 +654,8 @@ static void replay(struct berth_board *board) {
     same("unknown kind", reply.number, BERTH_UNKNOWN_KIND);
     same("clear", berth_board_clear(other), 1);
     same("board after refusals alone", memcmp(board, other, sizeof *other), 0);
-    reply = berth_fresh_board(&board->value, board->rows, 1, board->killers, BERTH_KILLERS, board->slots, BERTH_SLOTS, board->table, BERTH_RECORDS);
+    reply = berth_fresh_board(BERTH_HELD(board), board->rows, 1, board->killers, BERTH_KILLERS, board->slots, BERTH_SLOTS, board->marks, BERTH_MARKS,
+                              board->table, BERTH_RECORDS);
     same("short rows", reply.number, BERTH_BUFFER_LENGTH);
     same_fence(&fenced);
 }
@@ -386,9 +663,11 @@ static void replay(struct berth_board *board) {
 /* The sizes that the header says, and the library's own. */
 static void measure(void) {
     same("version", (long)berth_version(), BERTH_VERSION);
-    same("value's size", (long)berth_value_size(), BERTH_VALUE_SIZE);
+    same("size of value and names", (long)berth_value_size(), BERTH_VALUE_SIZE);
     same("header fits", berth_header_fits(), 1);
-    same("a board's size", (long)sizeof(struct berth_board), 22279);
+    same("size of the board's value", (long)sizeof(struct berth_value), 679);
+    same("a name's size", (long)sizeof(struct berth_name), 417);
+    same("a board's size", (long)sizeof(struct berth_board), 66121);
     same("a record's size", (long)sizeof(struct berth_summary), 3);
     same("size of a command's reply", (long)sizeof(struct berth_command_reply), 32);
     same("size of a replay's reply", (long)sizeof(struct berth_replay_reply), 16);
@@ -416,11 +695,16 @@ int main(int words, char **word) {
     ask(board);
     refuse(board);
     refuse_table(board);
+    refuse_marks(board);
     alter_table(board);
     alter_board();
+    alter_marks();
     replay(board);
     draft_gaps(board);
     refuse_gaps(board);
+    refuse_names(board);
+    keep_boards(board);
+    forget_boards(board);
     same_fence(&fenced);
     printf("header: %s\n", failed ? "FAILED" : "every function answers from C as it should");
     return failed;

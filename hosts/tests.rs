@@ -2,8 +2,10 @@
 //! top. With the word `texts` it prints the refusals and their texts; berth.h has to say the same.
 mod berth;
 
-use berth::{lent, Board, Draft, Form, Heads, Refusal, Replay, Report, Row, Rule, Slot, Summary, Value};
-use berth::{KILLERS, RECORDS, ROWS, SLOTS};
+use berth::{
+    lent, Board, Draft, Form, Heads, MarkedValue, Name, Refusal, Replay, Report, Row, Rule, Slot, Summary, Value,
+};
+use berth::{KILLERS, MARKS, RECORDS, ROWS, SLOTS};
 
 fn record(open: u8, struck: u8, rules: u8) -> Summary {
     Summary { open, struck, rules }
@@ -69,10 +71,9 @@ fn refuse(board: &mut Board) {
     assert_eq!(board.put(), Err(Refusal::NoDraft));
     assert_eq!(board.lift(9), Err(Refusal::NotInForce));
     assert_eq!(board.command(&[]), Err(Refusal::UnknownKind));
-    let before = *board.memory().value;
-    let mut value = before;
-    let answer = lent::command(&mut value, &[5, 5], &mut [], &mut [], &mut [], &mut []);
-    assert_eq!((answer, value), (Err(Refusal::BufferLength), before));
+    let MarkedValue { mut value, mut names } = *board.value();
+    let answer = lent::command(&mut value, &mut names, &[5, 5], &mut [], &mut [], &mut [], &mut [], &mut []);
+    assert_eq!((answer, MarkedValue { value, names }), (Err(Refusal::BufferLength), *board.value()));
     assert_eq!(*board.summaries(), table(&[record(1, 1, 2), record(1, 1, 1)]));
 }
 
@@ -84,6 +85,7 @@ fn put_gap(board: &mut Board, form: Form, gap: u8, pairs: &[[u8; 2]], open: [u32
     assert_eq!(*board.memory().value, Value { draft, ..*before.memory().value });
     let (now, then) = (board.memory(), before.memory());
     assert!(now.rows == then.rows && now.killers == then.killers && now.slots == then.slots);
+    assert!(board.value().names == before.value().names && board.marks() == before.marks());
     assert_eq!(board.summaries(), before.summaries());
     let struck = board.put().unwrap().struck;
     for (w, &[a, b]) in (0..).zip(pairs) {
@@ -148,13 +150,14 @@ fn refuse_gaps() {
     assert_eq!(board.row_bytes(63, 63), [7, 7, 255, 255]);
 }
 
-/// A board's memory, lent part by part, with a table of its own between two records that nobody may write.
+/// A board's memory, lent part by part, with marks and a table of its own, each between two that nobody may write.
 #[derive(Clone, PartialEq)]
 struct Parts {
-    value: Value,
+    value: MarkedValue,
     rows: Vec<u8>,
     killers: Vec<u8>,
     slots: Vec<u8>,
+    fenced_marks: Vec<u8>,
     fenced: Vec<Summary>,
 }
 
@@ -163,8 +166,14 @@ const FENCE: Summary = Summary { open: 0xa5, struck: 0xa5, rules: 0xa5 };
 impl Parts {
     fn of(board: &Board, table: &[Summary]) -> Self {
         let memory = board.memory();
-        let (rows, killers, slots) = (memory.rows.to_vec(), memory.killers.to_vec(), memory.slots.to_vec());
-        Parts { value: *memory.value, rows, killers, slots, fenced: [&[FENCE], table, &[FENCE]].concat() }
+        Parts {
+            value: *board.value(),
+            rows: memory.rows.to_vec(),
+            killers: memory.killers.to_vec(),
+            slots: memory.slots.to_vec(),
+            fenced_marks: [&[0xa5], board.marks(), &[0xa5]].concat(),
+            fenced: [&[FENCE], table, &[FENCE]].concat(),
+        }
     }
 
     /// The lent table; the fence around it stands.
@@ -173,31 +182,62 @@ impl Parts {
         table
     }
 
+    /// And the lent marks.
+    fn marks(&self) -> &[u8] {
+        let [0xa5, marks @ .., 0xa5] = &self.fenced_marks[..] else { panic!("something is written beside the marks") };
+        marks
+    }
+
+    fn marks_mut(&mut self) -> &mut [u8] {
+        let [_, marks @ .., _] = &mut self.fenced_marks[..] else { unreachable!() };
+        marks
+    }
+
     fn command(&mut self, bytes: &[u8]) -> u8 {
-        let Parts { value, rows, killers, slots, fenced } = self;
+        let Parts { value: MarkedValue { value, names }, rows, killers, slots, fenced_marks, fenced } = self;
+        let [_, marks @ .., _] = &mut fenced_marks[..] else { unreachable!() };
         let [_, table @ .., _] = &mut fenced[..] else { unreachable!() };
-        lent::command(value, bytes, rows, killers, slots, table).map_or_else(Refusal::number, |_| 0)
+        lent::command(value, names, bytes, rows, killers, slots, marks, table).map_or_else(Refusal::number, |_| 0)
     }
 
     fn replay(&mut self, file: &[u8]) -> u8 {
-        let Parts { value, rows, killers, slots, fenced } = self;
+        let Parts { value: MarkedValue { value, names }, rows, killers, slots, fenced_marks, fenced } = self;
+        let [_, marks @ .., _] = &mut fenced_marks[..] else { unreachable!() };
         let [_, table @ .., _] = &mut fenced[..] else { unreachable!() };
-        lent::replay(value, file, rows, killers, slots, table).map_or_else(Refusal::number, |_| 0)
+        lent::replay(value, names, file, rows, killers, slots, marks, table).map_or_else(Refusal::number, |_| 0)
     }
 
     fn fresh_board(&mut self) -> u8 {
-        let Parts { value, rows, killers, slots, fenced } = self;
+        let Parts { value: MarkedValue { value, names }, rows, killers, slots, fenced_marks, fenced } = self;
+        let [_, marks @ .., _] = &mut fenced_marks[..] else { unreachable!() };
         let [_, table @ .., _] = &mut fenced[..] else { unreachable!() };
-        lent::fresh_board(value, rows, killers, slots, table).map_or_else(Refusal::number, |_| 0)
+        lent::fresh_board(value, names, rows, killers, slots, marks, table).map_or_else(Refusal::number, |_| 0)
     }
 
-    /// The value and the buffers are the board's.
+    /// The value, the names and the buffers are the board's.
     fn same(&self, board: &Board) -> bool {
         let memory = board.memory();
-        self.value == *memory.value
+        self.value == *board.value()
             && self.rows == memory.rows
             && self.killers == memory.killers
             && self.slots == memory.slots
+            && self.marks() == board.marks()
+    }
+
+    /// What an accepted mark leaves, whatever the memory holds.
+    fn keep_under(&mut self, name: usize) {
+        self.value.names[name] = Name { kept: 1, heads: self.value.value.heads };
+        let kept = [&self.rows[..], &self.killers, &self.slots].concat();
+        self.marks_mut()[MARKS / 2 * name..][..MARKS / 2].copy_from_slice(&kept);
+    }
+
+    /// And what a back leaves.
+    fn bring_back(&mut self, name: usize) {
+        self.value.value = Value { heads: self.value.names[name].heads, draft: lent::fresh().value.draft };
+        let half = self.marks()[MARKS / 2 * name..][..MARKS / 2].to_vec();
+        self.rows = half[..ROWS].to_vec();
+        self.killers = half[ROWS..][..KILLERS].to_vec();
+        self.slots = half[ROWS + KILLERS..].to_vec();
     }
 }
 
@@ -217,31 +257,183 @@ fn refuse_table(board: &Board) {
     }
 }
 
-/// A value that holds nothing but this byte.
-fn value_of(byte: u8) -> Value {
-    let rule = Rule { arity: byte, scope: [byte; 4], length: byte, rows: [byte; 256] };
-    let heads = Heads { counts: [byte; 32], arity: [byte; 64], scope: [byte; 256], lengths: [byte; 64] };
-    Value { heads, draft: Draft { number: byte, rule } }
-}
-
-/// On altered memory commands return and leave the fence; one that is refused changes nothing.
-fn obey_altered(parts: &mut Parts) {
-    let commands: [&[u8]; 9] = [
+/// Marks of another length are refused as any buffer is, with every kind, and before the table, the command or the file is looked at. Nothing changes then.
+fn refuse_marks(board: &Board) {
+    let start = [&[1, 2, 2][..], &[0; 30]].concat();
+    let commands: [&[u8]; 10] = [
+        &[],
+        &start,
+        &[2, 9, 1, 1, 255, 255, 255],
+        &[3, 1, 255, 255, 255],
         &[4],
         &[5, 5],
+        &[6, 3, 9, 0, 1, 0],
+        &[7, 0],
+        &[8, 0],
+        &[9],
+    ];
+    for length in [0, MARKS / 2, MARKS - 1, MARKS + 1] {
+        for records in [RECORDS, 31] {
+            let mut parts = Parts::of(board, &vec![record(7, 8, 9); records]);
+            parts.fenced_marks = vec![0xa5; length + 2];
+            let before = parts.clone();
+            assert_eq!(commands.map(|bytes| parts.command(bytes)), [1; 10]);
+            assert_eq!([&start[..], &[4; berth::FILE + 1]].map(|file| parts.replay(file)), [1; 2]);
+            assert_eq!(parts.fresh_board(), 1);
+            assert!(parts == before);
+        }
+    }
+}
+
+/// A mark or a back that is refused leaves all as it was.
+fn refuse_name(board: &mut Board, bytes: &[u8], refusal: Refusal) {
+    let before = Parts::of(board, board.summaries());
+    assert_eq!(board.command(bytes), Err(refusal), "{bytes:?}");
+    assert!(before.same(board) && before.table() == board.summaries());
+}
+
+/// Without a board, with every name that is over 1, and where nothing is kept: each refusal comes before the next.
+fn refuse_names() {
+    let mut no_board = Board::new();
+    for name in 0..=255 {
+        refuse_name(&mut no_board, &[7, name], Refusal::NoBoard);
+        refuse_name(&mut no_board, &[8, name], Refusal::NoBoard);
+    }
+    let mut board = board();
+    board.gap(Form::Same, 9, 0, 1, 0).unwrap();
+    assert_eq!([0, 1].map(|name| board.back(name)), [Err(Refusal::NothingKept); 2]);
+    assert_eq!((board.mark(2), board.back(2)), (Err(Refusal::NameOver1), Err(Refusal::NameOver1)));
+    refuse_name(&mut board, &[8, 0], Refusal::NothingKept);
+    refuse_name(&mut board, &[8, 1], Refusal::NothingKept);
+    for name in 2..=255 {
+        refuse_name(&mut board, &[7, name], Refusal::NameOver1);
+        refuse_name(&mut board, &[8, name], Refusal::NameOver1);
+    }
+    for bytes in [&[7][..], &[7, 0, 0], &[8], &[8, 0, 0]] {
+        refuse_name(&mut board, bytes, Refusal::BodyLength);
+    }
+}
+
+/// A mark: the board under the name, and nothing else, is new.
+fn mark(board: &mut Board, name: u8) {
+    let mut due = Parts::of(board, board.summaries());
+    due.keep_under(name as usize);
+    assert_eq!(board.mark(name), Ok(Report::default()));
+    assert!(due.same(board) && due.table() == board.summaries(), "another board after a mark under {name}");
+}
+
+/// A back strikes and reopens so many slots. What was kept is there again, with this table and without a draft, and stays kept.
+fn back(board: &mut Board, name: u8, struck: usize, reopened: usize, table: &[Summary]) {
+    let mut due = Parts::of(board, board.summaries());
+    due.bring_back(name as usize);
+    assert_eq!(board.back(name), Ok(Report { struck, reopened, touched: struck + reopened }));
+    assert!(due.same(board) && table == board.summaries(), "another board after a back of {name}");
+    assert_eq!(board.put(), Err(Refusal::NoDraft));
+}
+
+/// Two boards are kept and brought back by turns; on the second it is slot 0 of each call that is struck. A new board forgets both, unless it is refused, and so
+/// does a file's.
+fn keep_boards() {
+    let mut board = board();
+    board.head(9, &[1]).unwrap();
+    board.row(&[1]).unwrap();
+    let first = *board.summaries();
+    mark(&mut board, 0);
+    refuse_name(&mut board, &[8, 1], Refusal::NothingKept);
+    assert_eq!(board.put().unwrap().struck, 2);
+    assert_eq!(board.lift(5).unwrap().reopened, 2);
+    board.gap(Form::Same, 7, 0, 1, 0).unwrap();
+    let second = *board.summaries();
+    mark(&mut board, 1);
+    back(&mut board, 0, 2, 2, &first);
+    ask(&board);
+    back(&mut board, 0, 0, 0, &first);
+    back(&mut board, 1, 2, 2, &second);
+    assert_eq!(board.lift(5), Err(Refusal::NotInForce));
+    assert_eq!(board.lift(9).unwrap().reopened, 2);
+    back(&mut board, 0, 2, 0, &first);
+    assert_eq!(board.lift(5).unwrap().reopened, 2);
+    back(&mut board, 1, 2, 0, &second);
+    back(&mut board, 0, 2, 2, &first);
+    mark(&mut board, 1);
+    assert!(board.marks()[..MARKS / 2] == board.marks()[MARKS / 2..]);
+    assert_eq!(board.start(&[]), Err(Refusal::BadCounts));
+    back(&mut board, 0, 0, 0, &first);
+    back(&mut board, 1, 0, 0, &first);
+    let bytes = board.marks().to_vec();
+    board.start(&[2, 2]).unwrap();
+    assert!(board.value().names == lent::fresh().names && board.marks() == bytes);
+    refuse_name(&mut board, &[8, 0], Refusal::NothingKept);
+    refuse_name(&mut board, &[8, 1], Refusal::NothingKept);
+    mark(&mut board, 1);
+    let bytes = board.marks().to_vec();
+    board.replay(&[&[1, 2, 2][..], &[0; 30]].concat()).unwrap();
+    assert!(board.value().names == lent::fresh().names && board.marks() == bytes);
+    refuse_name(&mut board, &[8, 1], Refusal::NothingKept);
+}
+
+/// Heads that hold nothing but this byte, and a whole value.
+fn heads_of(byte: u8) -> Heads {
+    Heads { counts: [byte; 32], arity: [byte; 64], scope: [byte; 256], lengths: [byte; 64] }
+}
+
+fn value_of(byte: u8) -> MarkedValue {
+    let rule = Rule { arity: byte, scope: [byte; 4], length: byte, rows: [byte; 256] };
+    let value = Value { heads: heads_of(byte), draft: Draft { number: byte, rule } };
+    MarkedValue { value, names: [Name { kept: byte, heads: heads_of(byte) }; 2] }
+}
+
+/// The memory after a host has filled a part of it: the board's buffers, the marks' bytes, their names, both of these, or all that there is.
+fn filled(kept: &Parts, byte: u8) -> [Parts; 5] {
+    let (rows, killers, slots) = (vec![byte; ROWS], vec![byte; KILLERS], vec![byte; SLOTS]);
+    let buffers = Parts { rows, killers, slots, ..kept.clone() };
+    let mut marks = kept.clone();
+    marks.marks_mut().fill(byte);
+    let named = MarkedValue { value: kept.value.value, ..value_of(byte) };
+    let mut all = Parts { value: value_of(byte), ..buffers.clone() };
+    all.marks_mut().fill(byte);
+    [Parts { value: named, ..kept.clone() }, Parts { value: named, ..marks.clone() }, buffers, marks, all]
+}
+
+/// On altered memory commands return and leave the fences, and only a mark writes names and marks; one that is refused changes nothing.
+fn obey_altered(parts: &mut Parts) {
+    let commands: [&[u8]; 17] = [
+        &[4],
+        &[2, 9, 1, 1, 255, 255, 255],
+        &[5, 5],
+        &[8, 1],
+        &[7, 0],
         &[6, 1, 63, 0, 31, 22],
         &[6, 2, 0, 1, 0, 0],
         &[6, 255, 255, 255, 255, 255],
         &[6, 3, 0, 1, 0, 0],
         &[3, 1, 0, 255, 255],
+        &[8, 255],
+        &[7, 2],
+        &[8, 0],
         &[5, 0],
+        &[7, 1],
+        &[8, 1],
         &[4],
     ];
     for bytes in commands {
-        let before = parts.clone();
+        let mut due = parts.clone();
         let number = parts.command(bytes);
         parts.table();
-        assert!(number == 0 || *parts == before, "{bytes:?} is refused {number}, and changes something");
+        assert!(number == 0 || *parts == due, "{bytes:?} is refused {number}, and changes something");
+        match (number, bytes) {
+            (0, [7, name]) => due.keep_under(*name as usize),
+            (0, [8, name]) => due.bring_back(*name as usize),
+            _ => {
+                assert!(
+                    parts.marks() == due.marks() && parts.value.names == due.value.names,
+                    "{bytes:?} writes names or marks"
+                );
+                continue;
+            }
+        }
+        due.fenced = parts.fenced.clone();
+        assert!(*parts == due, "{bytes:?} leaves another board");
     }
 }
 
@@ -263,20 +455,32 @@ fn alter(board: &Board) {
     parts.fenced[1..=RECORDS].copy_from_slice(&lent);
     assert_eq!(parts.command(&[6, 3, 9, 0, 1, 0]), 0);
     assert_eq!(parts.table(), board.summaries());
+    parts.fenced[1..=RECORDS].copy_from_slice(&lent);
+    assert_eq!(parts.command(&[7, 0]), 0);
+    assert_eq!(parts.table(), board.summaries());
+    parts.fenced[1..=RECORDS].copy_from_slice(&lent);
+    assert_eq!((parts.command(&[8, 1]), parts.table()), (27, &lent[..]));
+    assert_eq!(parts.command(&[8, 0]), 0);
+    assert_eq!(parts.table(), board.summaries());
     let file = [&[1, 3, 1][..], &[0; 30], &[2, 9, 1, 0, 255, 255, 255, 4]].concat();
     let mut parts = Parts::of(board, &lent);
     assert_eq!(parts.replay(&file), 0);
     assert_eq!(parts.table(), table(&[record(0, 3, 1), record(1, 0, 0)]));
     assert_eq!(parts.fresh_board(), 0);
-    assert!(parts.same(&Board::new()) && parts.table() == table(&[]));
+    assert!(parts.value == lent::fresh() && parts.table() == table(&[]));
+    assert!(parts.rows == [255; ROWS] && parts.killers == [255; KILLERS] && parts.slots == [254; SLOTS]);
+    assert_eq!(parts.marks(), board.marks());
     for byte in [0, 1, 3, 31, 63, 64, 200, 254, 255] {
-        let (rows, killers, slots) = (vec![byte; ROWS], vec![byte; KILLERS], vec![byte; SLOTS]);
-        let buffers = Parts { rows, killers, slots, ..Parts::of(board, &lent) };
-        let all = Parts { value: value_of(byte), ..buffers.clone() };
-        for mut parts in [buffers, all] {
+        let mut kept = Parts::of(board, &lent);
+        assert_eq!([0, 1].map(|name| kept.command(&[7, name])), [0; 2]);
+        for mut parts in filled(&kept, byte) {
             obey_altered(&mut parts);
+            let mut anew = parts.clone();
+            assert_eq!(anew.fresh_board(), 0);
+            assert!(anew.value == lent::fresh() && anew.marks() == parts.marks());
             assert_eq!(parts.command(&file[..33]), 0);
             assert_eq!(parts.table(), table(&[record(3, 0, 0), record(1, 0, 0)]));
+            assert!(parts.value.names == lent::fresh().names);
         }
     }
 }
@@ -284,35 +488,48 @@ fn alter(board: &Board) {
 /// A file leaves what its commands leave one by one, up to one that cannot be read; one that is too long changes nothing.
 fn replay(board: &mut Board) {
     let start = [&[1, 2, 2][..], &[0; 30]].concat();
-    let commands: [&[u8]; 6] =
-        [&[5, 9], &start, &[2, 0, 1, 0, 255, 255, 255], &[3, 1, 255, 255, 255], &[4], &[6, 3, 1, 0, 1, 0]];
+    let commands: [&[u8]; 10] = [
+        &[5, 9],
+        &start,
+        &[2, 0, 1, 0, 255, 255, 255],
+        &[3, 1, 255, 255, 255],
+        &[4],
+        &[7, 0],
+        &[5, 0],
+        &[7, 1],
+        &[8, 0],
+        &[6, 3, 1, 0, 1, 0],
+    ];
     let mut other = Board::new();
     for bytes in commands {
         let _ = other.command(bytes);
     }
     let file = commands.concat();
-    assert_eq!(board.replay(&file), Ok(Replay { ran: 6, end: None }));
-    let same = |a: &Board, b: &Board| {
-        let (x, y) = (a.memory(), b.memory());
-        x.value == y.value && x.slots == y.slots && a.summaries() == b.summaries()
-    };
+    assert_eq!(board.replay(&file), Ok(Replay { ran: 10, end: None }));
+    let same = |a: &Board, b: &Board| Parts::of(a, a.summaries()) == Parts::of(b, b.summaries());
     assert!(same(board, &other));
     assert_eq!(*board.summaries(), table(&[record(1, 1, 1), record(2, 0, 0)]));
     assert_eq!(board.replay(&[4; berth::FILE + 1]), Err(Refusal::FileLength));
     assert!(same(board, &other));
-    assert_eq!(board.replay(&[&file[..], &[5]].concat()), Ok(Replay { ran: 6, end: Some(Refusal::BodyLength) }));
+    assert_eq!(board.replay(&[&file[..], &[5]].concat()), Ok(Replay { ran: 10, end: Some(Refusal::BodyLength) }));
     assert!(same(board, &other));
-    let mut value = *board.memory().value;
-    assert_eq!(lent::replay(&mut value, &file, &mut [], &mut [], &mut [], &mut []), Err(Refusal::BufferLength));
-    assert_eq!(lent::fresh_board(&mut value, &mut [], &mut [], &mut [], &mut []), Err(Refusal::BufferLength));
-    assert!(value == *board.memory().value);
+    let MarkedValue { mut value, mut names } = *board.value();
+    assert_eq!(
+        lent::replay(&mut value, &mut names, &file, &mut [], &mut [], &mut [], &mut [], &mut []),
+        Err(Refusal::BufferLength)
+    );
+    assert_eq!(
+        lent::fresh_board(&mut value, &mut names, &mut [], &mut [], &mut [], &mut [], &mut []),
+        Err(Refusal::BufferLength)
+    );
+    assert!(MarkedValue { value, names } == *board.value());
 }
 
 fn name() {
     for number in 0..=255 {
         let refusal = Refusal::from_number(number);
         assert_eq!(refusal.number(), number);
-        assert_eq!(matches!(refusal, Refusal::Other(_)), !(1..=25).contains(&number), "{refusal:?}");
+        assert_eq!(matches!(refusal, Refusal::Other(_)), !(1..=27).contains(&number), "{refusal:?}");
     }
     assert_eq!(Refusal::NotInForce.to_string(), "refused 17: no rule of this number is in force");
     assert_eq!(Refusal::Other(99).to_string(), "refused 99: no refusal has this number");
@@ -329,10 +546,13 @@ fn main() {
     ask(&board);
     refuse(&mut board);
     refuse_table(&board);
+    refuse_marks(&board);
     alter(&board);
     replay(&mut board);
     draft_gaps();
     refuse_gaps();
+    refuse_names();
+    keep_boards();
     name();
     println!("wrapper: every function answers from Rust as it should");
 }

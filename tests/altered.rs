@@ -1,13 +1,13 @@
-//! Commands and questions on memory with any contents and of any lengths: every call returns, nothing outside the buffers and the table changes, and a refusal
-//! changes nothing. (host.rs asserts it of each command.) A new board has its table then, too.
+//! Commands and questions on memory with any contents and of any lengths: every call returns, nothing outside of it changes, a refusal changes nothing, and marks
+//! are written and brought back as ever. (host.rs asserts it of each command.) A new board has its table then, too.
 
-use crate::berth::{Summary, Value};
+use crate::berth::{MarkedValue, Summary};
 use crate::filter::all_slots;
 use crate::host::{number_of, Fenced, Host};
-use crate::ledger::{Ledger, BOARD, LAST_KIND, LENGTHS, LIFT, PUT};
+use crate::ledger::{Ledger, BACK, BOARD, LAST_KIND, LENGTHS, LIFT, MARK, PUT};
 use crate::random::Random;
 use crate::summary::{self, table_of};
-use crate::writer::{any_command, any_gap_rule, board, SIZES};
+use crate::writer::{any_command, any_gap_rule, board, some_name, SIZES};
 
 const HOSTS: u64 = 6000;
 const COMMANDS: usize = 6;
@@ -28,14 +28,14 @@ fn some_bytes(random: &mut Random, length: usize) -> Vec<u8> {
     (0..length).map(|_| byte()).collect()
 }
 
-/// The value as bytes: its fields are bytes throughout, so any bytes are one and none lies between them.
-fn value_bytes(value: &mut Value) -> &mut [u8] {
-    const { assert!(align_of::<Value>() == 1) };
-    unsafe { std::slice::from_raw_parts_mut((value as *mut Value).cast(), size_of::<Value>()) }
+/// The value and the names as bytes: their fields are bytes throughout, so any bytes are one and none lies between them.
+fn value_bytes(value: &mut MarkedValue) -> &mut [u8] {
+    const { assert!(align_of::<MarkedValue>() == 1) };
+    unsafe { std::slice::from_raw_parts_mut((value as *mut MarkedValue).cast(), size_of::<MarkedValue>()) }
 }
 
-/// Parts of the value, each with bytes of another sort.
-fn fill_value(random: &mut Random, value: &mut Value) {
+/// Parts of the value and the names, each with bytes of another sort.
+fn fill_value(random: &mut Random, value: &mut MarkedValue) {
     for part in value_bytes(value).chunks_mut(32) {
         part.copy_from_slice(&some_bytes(random, part.len()));
     }
@@ -70,28 +70,36 @@ pub fn some_host(random: &mut Random, left: &[Host]) -> Host {
     if random.percent(50) {
         fill_value(random, &mut host.value);
         host.buffers = std::array::from_fn(|i| some_buffer(random, LENGTHS.buffers[i]));
+        host.marks = some_buffer(random, LENGTHS.marks);
         host.table = some_table(random);
         return host;
     }
     summary::alter(random, host.table.inside_mut());
     for _ in 0..random.between((1, 40)) {
-        let part = match random.below(host.buffers.len() + 2) {
-            i if i < host.buffers.len() => host.buffers[i].inside_mut(),
+        let part = match random.below(6) {
+            i @ 0..3 => host.buffers[i].inside_mut(),
+            3 => host.marks.inside_mut(),
             _ => value_bytes(&mut host.value),
         };
         part[random.below(part.len())] = some_bytes(random, 1)[0];
     }
+    for name in &mut host.value.names {
+        if random.percent(30) {
+            name.kept = some_bytes(random, 1)[0];
+        }
+    }
     host
 }
 
-/// Mostly puts and lifts, which do most there.
+/// Mostly puts, lifts, marks and backs, which do most there.
 fn some_command(random: &mut Random) -> Vec<u8> {
-    match random.below(60) {
+    match random.below(80) {
         0 => board(random, &SIZES[0]),
         1..=13 => vec![PUT],
         14..=26 => vec![LIFT, random.below(65) as u8],
         27..=32 => any_gap_rule(random),
         33..=50 => any_command(random),
+        51..=70 => vec![*random.choose(&[MARK, BACK]), some_name(random)],
         _ => {
             let length = random.below(40);
             some_bytes(random, length)

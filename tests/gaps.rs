@@ -25,14 +25,14 @@ fn check_counts(counts: [u8; 2]) -> usize {
         let answer = board.command(&bytes);
         assert_eq!(number_of(&answer), due, "the refusal of {bytes:?} on {counts:?} slots");
         assert_eq!(answer.unwrap_or_default(), Report::default(), "the report of {bytes:?} on {counts:?} slots");
-        assert_eq!(*board.memory().value, value_of(&ledger), "the value after {bytes:?} on {counts:?} slots");
+        assert_eq!(*board.value(), value_of(&ledger), "the value after {bytes:?} on {counts:?} slots");
     }
     accepted
 }
 
 /// The calls of a board that has this memory, in a ledger of their own.
 fn calls_of(host: &Host) -> Ledger {
-    let counts = host.value.heads.counts.into_iter().take_while(|count| *count > 0).collect();
+    let counts = host.value.value.heads.counts.into_iter().take_while(|count| *count > 0).collect();
     Ledger { counts, ..Ledger::default() }
 }
 

@@ -1,9 +1,10 @@
-//! A host's value, lent buffers and summary table, each between bytes that nobody may write. What the library promises of any contents is asserted of every
-//! command.
+//! A host's value, names, lent buffers, marks and summary table, each between bytes that nobody may write. What the library promises of any contents is asserted
+//! of every command: that a refused one changes nothing, and what an accepted one leaves of the names and the marks.
 
 use crate::berth::lent::{self, Memory};
-use crate::berth::{Answer, Draft, Heads, Refusal, Replay, Report, Summary, Value};
-use crate::ledger::{Ledger, Lengths, LENGTHS};
+use crate::berth::{Answer, Draft, Heads, MarkedValue, Name, Refusal, Replay, Report, Rule, Summary, Value};
+use crate::ledger::{Kept, Ledger, Lengths, Rules, BACK, BOARD, LENGTHS, MARK};
+use std::ops::Range;
 
 const FENCE: usize = 1024;
 const FENCE_BYTE: u8 = 0xa5;
@@ -51,28 +52,40 @@ impl<T: Item> Fenced<T> {
     }
 }
 
-// The value as the library is lent it, between bytes of its own.
+// The value, or both names, as the library is lent them: each between bytes of its own.
 #[repr(C)]
-struct FencedValue {
+struct FencedStruct<T> {
     before: [u8; FENCE],
-    value: Value,
+    inside: T,
     behind: [u8; FENCE],
 }
 
-fn lend_value<T>(value: &mut Value, call: impl FnOnce(&mut Value) -> T) -> T {
-    let fence = [FENCE_BYTE; FENCE];
-    let mut fenced = FencedValue { before: fence, value: *value, behind: fence };
-    let answer = call(&mut fenced.value);
-    assert!(fenced.before == fence && fenced.behind == fence, "something is written outside the value");
-    *value = fenced.value;
+impl<T: Copy> FencedStruct<T> {
+    fn new(inside: &T) -> Self {
+        let fence = [FENCE_BYTE; FENCE];
+        FencedStruct { before: fence, inside: *inside, behind: fence }
+    }
+
+    fn stands(&self) -> bool {
+        [self.before, self.behind] == [[FENCE_BYTE; FENCE]; 2]
+    }
+}
+
+fn lend_value<T>(whole: &mut MarkedValue, call: impl FnOnce(&mut Value, &mut [Name; 2]) -> T) -> T {
+    let (mut value, mut names) = (FencedStruct::new(&whole.value), FencedStruct::new(&whole.names));
+    let answer = call(&mut value.inside, &mut names.inside);
+    assert!(value.stands(), "something is written outside the value");
+    assert!(names.stands(), "something is written outside the names");
+    *whole = MarkedValue { value: value.inside, names: names.inside };
     answer
 }
 
 #[derive(Clone, PartialEq)]
 pub struct Host {
-    pub value: Value,
+    pub value: MarkedValue,
     /// rows, killers, slots
     pub buffers: [Fenced<u8>; 3],
+    pub marks: Fenced<u8>,
     pub table: Fenced<Summary>,
 }
 
@@ -82,15 +95,25 @@ pub fn number_of<T>(answer: &Answer<T>) -> u8 {
     answer.as_ref().err().map_or(0, number)
 }
 
-/// The value beside the buffers that belongs to a ledger: where it has nothing to say, what a fresh board has.
-pub fn value_of(ledger: &Ledger) -> Value {
-    Value { heads: heads_of(ledger), draft: draft_of(ledger) }
+const NO_HEADS: Heads = Heads { counts: [0; 32], arity: [0; 64], scope: [255; 256], lengths: [0; 64] };
+const UNUSED_NAME: Name = Name { kept: 0, heads: NO_HEADS };
+const NO_DRAFT: Draft = Draft { number: 255, rule: Rule { arity: 0, scope: [255; 4], length: 0, rows: [255; 256] } };
+
+/// The value and the names that belong to a ledger: where it has nothing to say, what a fresh board has.
+pub fn value_of(ledger: &Ledger) -> MarkedValue {
+    let value = Value { heads: heads_of(&ledger.counts, &ledger.rules), draft: draft_of(ledger) };
+    let names = ledger.kept.each_ref().map(|kept| kept.as_ref().map_or(UNUSED_NAME, name_of));
+    MarkedValue { value, names }
 }
 
-fn heads_of(ledger: &Ledger) -> Heads {
-    let mut heads = Heads { counts: [0; 32], arity: [0; 64], scope: [255; 256], lengths: [0; 64] };
-    heads.counts[..ledger.counts.len()].copy_from_slice(&ledger.counts);
-    for (number, rule) in &ledger.rules {
+fn name_of(kept: &Kept) -> Name {
+    Name { kept: 1, heads: heads_of(&kept.counts, &kept.rules) }
+}
+
+fn heads_of(counts: &[u8], rules: &Rules) -> Heads {
+    let mut heads = NO_HEADS;
+    heads.counts[..counts.len()].copy_from_slice(counts);
+    for (number, rule) in rules {
         let number = *number as usize;
         heads.arity[number] = rule.calls.len() as u8;
         heads.scope[4 * number..][..rule.calls.len()].copy_from_slice(&rule.calls);
@@ -100,8 +123,7 @@ fn heads_of(ledger: &Ledger) -> Heads {
 }
 
 fn draft_of(ledger: &Ledger) -> Draft {
-    let mut draft =
-        Draft { number: 255, rule: crate::berth::Rule { arity: 0, scope: [255; 4], length: 0, rows: [255; 256] } };
+    let mut draft = NO_DRAFT;
     if let Some((number, rule)) = &ledger.draft {
         let rows = rule.rows.as_flattened();
         draft.number = *number;
@@ -113,23 +135,39 @@ fn draft_of(ledger: &Ledger) -> Draft {
     draft
 }
 
+/// Where the bytes under a name stand among the marks'.
+pub fn part_under(name: u8) -> Range<usize> {
+    let half = LENGTHS.marks / 2;
+    half * name as usize..half * (name as usize + 1)
+}
+
 impl Host {
     pub fn fresh() -> Self {
         let fill = [255, 255, 254];
         let buffer = |i: usize| Fenced::new(&vec![fill[i]; LENGTHS.buffers[i]]);
+        let marks = Fenced::new(&vec![0; LENGTHS.marks]);
         let table = Fenced::new(&vec![Summary::default(); LENGTHS.table]);
-        Host { value: lent::fresh(), buffers: std::array::from_fn(buffer), table }
+        Host { value: lent::fresh(), buffers: std::array::from_fn(buffer), marks, table }
+    }
+
+    /// The same, with these marks' bytes: nothing is kept, so they may be any.
+    pub fn fresh_beside(marks: &Fenced<u8>) -> Self {
+        Host { marks: marks.clone(), ..Host::fresh() }
     }
 
     pub fn lengths(&self) -> Lengths {
-        Lengths { buffers: std::array::from_fn(|i| self.buffers[i].inside().len()), table: self.table.inside().len() }
+        let buffers = self.buffers.each_ref().map(|buffer| buffer.inside().len());
+        Lengths { buffers, marks: self.marks.inside().len(), table: self.table.inside().len() }
     }
 
-    /// What a call answers that is lent all of it. Nothing outside changes.
-    fn lend<T>(&mut self, call: impl FnOnce(&mut Value, [&mut [u8]; 3], &mut [Summary]) -> T) -> T {
-        let (buffers, table) = (self.buffers.each_mut().map(Fenced::inside_mut), self.table.inside_mut());
-        let answer = lend_value(&mut self.value, |value| call(value, buffers, table));
+    /// What a call answers that is lent all of it: the value, the names, rows, killers, slots and marks, and the table. Nothing outside changes.
+    fn lend<T>(&mut self, call: impl FnOnce(&mut Value, &mut [Name; 2], [&mut [u8]; 4], &mut [Summary]) -> T) -> T {
+        let [rows, killers, slots] = self.buffers.each_mut().map(Fenced::inside_mut);
+        let buffers = [rows, killers, slots, self.marks.inside_mut()];
+        let table = self.table.inside_mut();
+        let answer = lend_value(&mut self.value, |value, names| call(value, names, buffers, table));
         assert!(self.buffers.iter().all(Fenced::stands), "something is written outside the buffers");
+        assert!(self.marks.stands(), "something is written outside the marks");
         assert!(self.table.stands(), "something is written outside the summary table");
         answer
     }
@@ -138,30 +176,79 @@ impl Host {
     pub fn command(&mut self, bytes: &[u8]) -> (Answer<Report>, Host) {
         let before = self.clone();
         let given = Fenced::new(bytes);
-        let answer = self.lend(|value, [rows, killers, slots], table| {
-            lent::command(value, given.inside(), rows, killers, slots, table)
+        let answer = self.lend(|value, names, [rows, killers, slots, marks], table| {
+            lent::command(value, names, given.inside(), rows, killers, slots, marks, table)
         });
         assert!(given == Fenced::new(bytes), "{bytes:?} is written to");
-        assert!(answer.is_ok() || *self == before, "{bytes:?} is refused, and changes something");
+        match answer {
+            Ok(_) => self.check_marks(bytes, &before),
+            Err(_) => assert!(*self == before, "{bytes:?} is refused, and changes something"),
+        }
         (answer, before)
+    }
+
+    /// What an accepted command leaves of the names and the marks. Kind 7 writes its name and that name's part of the marks and nothing else, kind 8 brings these
+    /// back and leaves them, kind 1 forgets both names, and the others leave all of it.
+    fn check_marks(&self, bytes: &[u8], before: &Host) {
+        match bytes[0] {
+            MARK => self.check_left(bytes, &before.marked(bytes[1])),
+            BACK => self.check_left(bytes, &before.brought_back(bytes[1])),
+            kind => {
+                let names = if kind == BOARD { [UNUSED_NAME; 2] } else { before.value.names };
+                assert!(self.value.names == names, "the names after {bytes:?}");
+                assert!(self.marks == before.marks, "{bytes:?} writes to the marks");
+            }
+        }
+    }
+
+    /// All but the table is as it is due.
+    fn check_left(&self, bytes: &[u8], due: &Host) {
+        assert!(self.value.names == due.value.names, "the names after {bytes:?}");
+        assert!(self.value.value == due.value.value, "the value after {bytes:?}");
+        assert!(self.buffers == due.buffers, "the buffers after {bytes:?}");
+        assert!(self.marks == due.marks, "the marks after {bytes:?}");
+    }
+
+    /// The same with the board kept under a name.
+    fn marked(&self, name: u8) -> Host {
+        let mut host = self.clone();
+        host.value.names[name as usize] = Name { kept: 1, heads: self.value.value.heads };
+        let bytes = self.buffers.each_ref().map(Fenced::inside).concat();
+        host.marks.inside_mut()[part_under(name)].copy_from_slice(&bytes);
+        host
+    }
+
+    /// The same with the board that is kept under a name, and no draft.
+    fn brought_back(&self, name: u8) -> Host {
+        let mut host = self.clone();
+        host.value.value = Value { heads: self.value.names[name as usize].heads, draft: NO_DRAFT };
+        let mut part = &self.marks.inside()[part_under(name)];
+        for buffer in &mut host.buffers {
+            let (bytes, behind) = part.split_at(buffer.inside().len());
+            buffer.inside_mut().copy_from_slice(bytes);
+            part = behind;
+        }
+        host
     }
 
     /// What became of a file of commands. The file does not change.
     pub fn replay(&mut self, file: &[u8]) -> Answer<Replay> {
         let given = Fenced::new(file);
-        let answer = self.lend(|value, [rows, killers, slots], table| {
-            lent::replay(value, given.inside(), rows, killers, slots, table)
+        let answer = self.lend(|value, names, [rows, killers, slots, marks], table| {
+            lent::replay(value, names, given.inside(), rows, killers, slots, marks, table)
         });
         assert!(given == Fenced::new(file), "a file of {} bytes is written to", file.len());
         answer
     }
 
     pub fn fresh_board(&mut self) -> Answer<()> {
-        self.lend(|value, [rows, killers, slots], table| lent::fresh_board(value, rows, killers, slots, table))
+        self.lend(|value, names, [rows, killers, slots, marks], table| {
+            lent::fresh_board(value, names, rows, killers, slots, marks, table)
+        })
     }
 
     pub fn memory(&self) -> Memory<'_> {
         let [rows, killers, slots] = &self.buffers;
-        Memory { value: &self.value, rows: rows.inside(), killers: killers.inside(), slots: slots.inside() }
+        Memory { value: &self.value.value, rows: rows.inside(), killers: killers.inside(), slots: slots.inside() }
     }
 }

@@ -1,6 +1,6 @@
-//! The ledger (SCOPE 6.5), written for the tests and apart from the board: the calls' slot counts, the draft and the rules, when a command or a question is
-//! refused, and what a command does. A new kind of command is added to the constants, to `body_length`, `kind_refusal`, `obey` and `writes_draft_only` here,
-//! to `report_of` in filter.rs and `touched_limits` in session.rs, to what writer.rs writes, and to `REFUSALS_OF_KIND` in tally.rs.
+//! The ledger (SCOPE 6.5), written for the tests and apart from the board: the calls' slot counts, the draft, the rules and the kept boards, when a command or a
+//! question is refused, and what a command does. A new kind of command is added to the constants, to `body_length`, `kind_refusal`, `obey` and `leaves_buffers`
+//! here, to `report_of` in filter.rs and `touched_limits` in session.rs, to what writer.rs writes, and to `REFUSALS_OF_KIND` in tally.rs.
 
 use std::collections::BTreeMap;
 
@@ -10,31 +10,36 @@ pub const ROW: u8 = 3;
 pub const PUT: u8 = 4;
 pub const LIFT: u8 = 5;
 pub const GAP: u8 = 6;
-pub const LAST_KIND: u8 = GAP;
+pub const MARK: u8 = 7;
+pub const BACK: u8 = 8;
+pub const LAST_KIND: u8 = BACK;
 
 /// Refusals have the numbers up to this one.
-pub const LAST_REFUSAL: usize = 25;
+pub const LAST_REFUSAL: usize = 27;
 
 /// The lengths of what is lent with a command.
 #[derive(Clone, Copy)]
 pub struct Lengths {
     /// rows, killers, slots
     pub buffers: [usize; 3],
+    /// of both marks together
+    pub marks: usize,
     /// the summary table's, in records
     pub table: usize,
 }
 
-pub const LENGTHS: Lengths = Lengths { buffers: [64 * 64 * 4, 64 * 64, 32 * 32], table: 32 };
+pub const LENGTHS: Lengths = Lengths { buffers: [64 * 64 * 4, 64 * 64, 32 * 32], marks: 43008, table: 32 };
 
 impl Lengths {
-    /// The refusal of a question that is lent these buffers: 1 or 0.
+    /// The refusal of a question, which is lent the three buffers and no marks: 1 or 0.
     pub fn question_refusal(self) -> u8 {
         first(&[(1, self.buffers != LENGTHS.buffers)])
     }
 
     /// The refusal of a command or a file that is lent all of it: 1, 22 or 0.
     pub fn refusal(self) -> u8 {
-        first(&[(1, self.buffers != LENGTHS.buffers), (22, self.table != LENGTHS.table)])
+        let buffers = self.buffers != LENGTHS.buffers || self.marks != LENGTHS.marks;
+        first(&[(1, buffers), (22, self.table != LENGTHS.table)])
     }
 }
 
@@ -47,17 +52,18 @@ pub fn body_length(kind: u8) -> Option<usize> {
         PUT => Some(0),
         LIFT => Some(1),
         GAP => Some(5),
+        MARK | BACK => Some(1),
         _ => None,
     }
 }
 
-/// An accepted command of this kind leaves the buffers as they were.
-pub fn writes_draft_only(kind: u8) -> bool {
-    matches!(kind, HEAD | ROW | GAP)
+/// An accepted command of this kind leaves rows, killers and slots as they were.
+pub fn leaves_buffers(kind: u8) -> bool {
+    matches!(kind, HEAD | ROW | GAP | MARK)
 }
 
 /// A row has a slot for each of the calls, and 255 in the columns past them.
-#[derive(Clone, Debug, Default)]
+#[derive(Clone, Debug, Default, PartialEq)]
 pub struct Rule {
     pub calls: Vec<u8>,
     pub rows: Vec<[u8; 4]>,
@@ -70,13 +76,25 @@ impl Rule {
     }
 }
 
+/// The rules in force, by their numbers.
+pub type Rules = BTreeMap<u8, Rule>;
+
+/// A board that is kept under a name.
+#[derive(Clone, Debug, PartialEq)]
+pub struct Kept {
+    pub counts: Vec<u8>,
+    pub rules: Rules,
+}
+
 #[derive(Clone, Debug, Default)]
 pub struct Ledger {
     /// the slots of each call
     pub counts: Vec<u8>,
     /// the draft, and the number that it is to come into force under
     pub draft: Option<(u8, Rule)>,
-    pub rules: BTreeMap<u8, Rule>,
+    pub rules: Rules,
+    /// under the names 0 and 1
+    pub kept: [Option<Kept>; 2],
 }
 
 /// The number of the first condition that holds, or 0.
@@ -132,6 +150,8 @@ impl Ledger {
             PUT => self.put_refusal(),
             LIFT => self.rule_refusal(body[0]),
             GAP => self.gap_refusal(body[0], body[1], &body[2..4], body[4]),
+            MARK => self.name_refusal(body[0]),
+            BACK => self.back_refusal(body[0]),
             _ => unreachable!(),
         }
     }
@@ -188,6 +208,20 @@ impl Ledger {
         ])
     }
 
+    fn name_refusal(&self, name: u8) -> u8 {
+        first(&[(6, self.no_board()), (26, name > 1)])
+    }
+
+    fn back_refusal(&self, name: u8) -> u8 {
+        let before = self.name_refusal(name);
+        first(&[(before, before != 0), (27, self.kept_under(name).is_none())])
+    }
+
+    /// The board that is kept under a name, where there is one.
+    pub fn kept_under(&self, name: u8) -> Option<&Kept> {
+        self.kept.get(name as usize)?.as_ref()
+    }
+
     /// The rows of a gap rule on two calls, however many they are.
     pub fn fitting_rows(&self, form: u8, calls: &[u8], gap: u8) -> Vec<[u8; 4]> {
         let slots = |call: u8| 0..self.count(call) as i32;
@@ -237,6 +271,14 @@ impl Ledger {
                 let calls = body[2..4].to_vec();
                 let rows = self.fitting_rows(body[0], &calls, body[4]);
                 self.draft = Some((body[1], Rule { calls, rows }));
+            }
+            MARK => {
+                let kept = Kept { counts: self.counts.clone(), rules: self.rules.clone() };
+                self.kept[body[0] as usize] = Some(kept);
+            }
+            BACK => {
+                let Kept { counts, rules } = self.kept_under(body[0]).unwrap().clone();
+                (self.counts, self.rules, self.draft) = (counts, rules, None);
             }
             _ => unreachable!(),
         }

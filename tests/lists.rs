@@ -17,14 +17,17 @@ fn lend_other_table(writer: &mut Writer, host: &mut Host) {
     host.table = Fenced::new(&records);
 }
 
-/// A buffer, the table or both are lent too short or too long. What stands after it is all as it was.
+/// A buffer, the marks, the table or several of these are lent too short or too long. What stands after it is all as it was.
 fn other_length(writer: &mut Writer, session: &mut Session, bytes: &[u8]) {
     let mut host = session.host.clone();
-    let which = writer.random.below(4);
-    if which < 2 {
+    let which = *writer.random.choose(&[1, 2, 3, 4, 4, 4, 5, 6]);
+    if which & 1 != 0 {
         questions::lend_other_length(&mut writer.random, &mut host);
     }
-    if which > 0 {
+    if which & 2 != 0 {
+        questions::to_other_length(&mut writer.random, &mut host.marks);
+    }
+    if which & 4 != 0 {
         lend_other_table(writer, &mut host);
     }
     let refusal = session.ledger.refusal(host.lengths(), bytes);
@@ -36,7 +39,8 @@ fn other_length(writer: &mut Writer, session: &mut Session, bytes: &[u8]) {
 /// One list. Returns what it leaves.
 fn list(seed: u64, sizes: &'static Sizes, tally: &mut Tally) -> Host {
     let mut writer = Writer::new(seed, sizes);
-    let mut session = Session::new(tally);
+    let marks: Vec<u8> = (0..LENGTHS.marks).map(|_| writer.random.byte()).collect();
+    let mut session = Session::new(tally, &marks);
     for index in 0..sizes.commands {
         crate::place::command(index);
         let bytes = writer.next(&session.ledger);
@@ -48,7 +52,7 @@ fn list(seed: u64, sizes: &'static Sizes, tally: &mut Tally) -> Host {
             session.tally.altered_tables += 1;
         }
         session.command(&bytes);
-        let changed = bytes.first().is_some_and(|kind| !ledger::writes_draft_only(*kind));
+        let changed = bytes.first().is_some_and(|kind| !ledger::leaves_buffers(*kind));
         if changed || writer.random.below(10) == 0 {
             questions::ask(&mut writer.random, &mut session);
         }

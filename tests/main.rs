@@ -14,6 +14,7 @@ mod gaps;
 mod host;
 mod ledger;
 mod lists;
+mod marks;
 mod place;
 mod questions;
 mod random;

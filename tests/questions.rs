@@ -30,8 +30,8 @@ fn some_numbers(random: &mut Random, ledger: &Ledger) -> Numbers {
 /// All five; now and then a buffer of another length is lent.
 pub fn ask(random: &mut Random, session: &mut Session) {
     let numbers = &some_numbers(random, &session.ledger);
-    let right = session.host.clone();
-    if random.percent(2) {
+    let right = random.percent(2).then(|| session.host.clone());
+    if right.is_some() {
         lend_other_length(random, &mut session.host);
     }
     let before = session.host.clone();
@@ -41,16 +41,20 @@ pub fn ask(random: &mut Random, session: &mut Session) {
     session.ask_row_bytes(numbers);
     session.ask_support(numbers);
     assert!(session.host == before, "a question changes something");
-    session.host = right;
+    session.host = right.unwrap_or(before);
 }
 
 /// One of the buffers gets another length.
 pub fn lend_other_length(random: &mut Random, host: &mut Host) {
     let buffer = random.below(host.buffers.len());
-    let mut contents = host.buffers[buffer].inside().to_vec();
-    let length = *random.choose(&[0, 1, contents.len() - 1, contents.len() + 1]);
+    to_other_length(random, &mut host.buffers[buffer]);
+}
+
+pub fn to_other_length(random: &mut Random, buffer: &mut Fenced<u8>) {
+    let mut contents = buffer.inside().to_vec();
+    let length = *random.choose(&[0, 1, contents.len() / 2, contents.len() - 1, contents.len() + 1]);
     contents.resize(length, random.byte());
-    host.buffers[buffer] = Fenced::new(&contents);
+    *buffer = Fenced::new(&contents);
 }
 
 impl Session<'_> {

@@ -1,8 +1,8 @@
-//! Samples whose values are written out: the texts in samples/, whose sheets stand beside them, the sample boards (SCOPE 8), and gap rules.
+//! Samples whose values are written out: the texts in samples/, whose sheets stand beside them, the sample boards (SCOPE 8), gap rules and marks.
 
-use crate::berth::{Board, Summary};
+use crate::berth::{Board, Row, Slot, Summary};
 use crate::host::number_of;
-use crate::ledger::GAP;
+use crate::ledger::{BACK, GAP, LAST_KIND, MARK};
 use crate::sheet::{check_total, program_writes, sheet_of};
 use crate::tally::Tally;
 use std::path::Path;
@@ -31,7 +31,7 @@ fn check_texts(tally: &mut Tally) {
         check_total(&bytes, &sheet, tally);
         seen.push(text.file_stem().unwrap().to_str().unwrap().to_owned());
     }
-    for name in ["ac3-example", "harbour", "pilot", "session"] {
+    for name in ["ac3-example", "harbour", "pilot", "session", "storm"] {
         assert!(seen.iter().any(|other| other == name), "there is no sample {name}");
     }
     tally.files += seen.len();
@@ -169,7 +169,7 @@ fn check_gap_limits() {
 /// Gap rules with several things wrong, and fewer from one to the next. The last two have too many rows.
 fn check_gap_refusals() {
     let mut board = Board::new();
-    assert_eq!(number_of(&board.command(&[GAP + 1, 4, 64, 2, 2, 32])), 3);
+    assert_eq!(number_of(&board.command(&[LAST_KIND + 1, 4, 64, 2, 2, 32])), 3);
     assert_eq!(number_of(&board.command(&[GAP, 4, 64, 2, 2])), 4);
     assert_eq!(number_of(&board.command(&[GAP, 4, 64, 2, 2, 32, 0])), 4);
     assert_eq!(gap_refusal(&mut board, 4, 64, [2, 2], 32), 6);
@@ -210,6 +210,78 @@ fn check_gap_drafts() {
     assert_eq!(board.row_bytes(9, 9), [4, 6, 255, 255]);
 }
 
+/// The board is brought back from the name. S, R and T are to be these.
+fn back(board: &mut Board, name: u8, [struck, reopened, touched]: [usize; 3]) {
+    let report = board.back(name).unwrap();
+    let found = [report.struck, report.reopened, report.touched];
+    assert_eq!(found, [struck, reopened, touched], "S, R and T of a back of {name}");
+}
+
+/// P1 and P2 are kept, and brought back from P3 and from each other, with their rules, causes and killers. Either stays kept.
+fn check_marks() {
+    let mut board = Board::new();
+    board.start(&[3, 3, 2]).unwrap();
+    put(&mut board, 0, &[0, 1], &[&[0, 1], &[0, 2], &[1, 2]], 2);
+    board.mark(0).unwrap();
+    put(&mut board, 1, &[1, 2], &[&[1, 0], &[0, 1]], 3);
+    board.mark(1).unwrap();
+    board.lift(0).unwrap();
+    back(&mut board, 0, [2, 1, 3]);
+    assert_eq!([0, 1, 2].map(|call| open(&board, call)), [vec![0, 1], vec![1, 2], vec![0, 1]], "P1 from P3");
+    assert_eq!(figures(&board), [(2, 1, 1), (2, 1, 1), (2, 0, 0)], "P1 from P3");
+    assert_eq!(board.slot_state(1, 0), Ok(Slot::Struck { cause: 0 }), "P1 from P3");
+    assert_eq!(number_of(&board.row_state(1, 0)), 17, "P1 from P3");
+    back(&mut board, 1, [3, 0, 3]);
+    assert_eq!([0, 1, 2].map(|call| open(&board, call)), [[0], [1], [0]], "P2 from P1");
+    assert_eq!(figures(&board), [(1, 2, 1), (1, 2, 2), (1, 1, 1)], "P2 from P1");
+    assert_eq!(board.slot_state(2, 1), Ok(Slot::Struck { cause: 1 }), "P2 from P1");
+    assert_eq!([0, 1].map(|row| board.row_state(1, row)), [Ok(Row::Alive), Ok(Row::Dead { killer: 0 })], "P2 from P1");
+    back(&mut board, 1, [0, 0, 0]);
+    back(&mut board, 0, [0, 3, 3]);
+    assert_eq!(board.lift(0).unwrap().reopened, 2, "P1 from P2");
+    back(&mut board, 1, [5, 0, 5]);
+    assert_eq!(board.lift(0).unwrap().reopened, 4, "P3 from P2");
+}
+
+/// A mark leaves the draft and so does a refused back; an accepted one drops it.
+fn check_mark_drafts() {
+    let mut board = Board::new();
+    board.start(&[2, 2]).unwrap();
+    board.head(7, &[0]).unwrap();
+    board.row(&[1]).unwrap();
+    let report = board.mark(0).unwrap();
+    assert_eq!([report.struck, report.reopened, report.touched], [0; 3]);
+    assert_eq!(number_of(&board.back(1)), 27);
+    assert_eq!(board.put().unwrap().struck, 1, "the draft that a mark left");
+    board.head(8, &[1]).unwrap();
+    back(&mut board, 0, [0, 1, 1]);
+    assert_eq!(number_of(&board.put()), 12);
+    assert_eq!(number_of(&board.row(&[0])), 12);
+    assert_eq!(figures(&board), [(2, 0, 0), (2, 0, 0)]);
+}
+
+/// Marks and backs with several things wrong, and fewer from one to the next. A new board forgets the marks, and a refused one leaves them.
+fn check_mark_refusals() {
+    let mut board = Board::new();
+    assert_eq!(number_of(&board.command(&[LAST_KIND + 1, 2])), 3);
+    for kind in [MARK, BACK] {
+        assert_eq!(number_of(&board.command(&[kind])), 4);
+        assert_eq!(number_of(&board.command(&[kind, 2, 0])), 4);
+        assert_eq!(number_of(&board.command(&[kind, 2])), 6);
+        assert_eq!(number_of(&board.command(&[kind, 0])), 6);
+    }
+    board.start(&[3]).unwrap();
+    assert_eq!([2, 255].map(|name| number_of(&board.mark(name))), [26; 2]);
+    assert_eq!([2, 255].map(|name| number_of(&board.back(name))), [26; 2]);
+    assert_eq!([0, 1].map(|name| number_of(&board.back(name))), [27; 2]);
+    assert_eq!(number_of(&board.mark(1)), 0);
+    assert_eq!([0, 1, 2].map(|name| number_of(&board.back(name))), [27, 0, 26]);
+    assert_eq!(number_of(&board.start(&[33])), 5);
+    assert_eq!([0, 1].map(|name| number_of(&board.back(name))), [27, 0]);
+    assert_eq!(number_of(&board.start(&[3])), 0);
+    assert_eq!([0, 1].map(|name| number_of(&board.back(name))), [27; 2]);
+}
+
 pub fn run(tally: &mut Tally) {
     crate::place::list("samples", 0);
     check_put_and_lift();
@@ -220,6 +292,9 @@ pub fn run(tally: &mut Tally) {
     check_gap_limits();
     check_gap_refusals();
     check_gap_drafts();
+    check_marks();
+    check_mark_drafts();
+    check_mark_refusals();
     check_texts(tally);
-    println!("samples: the sample boards, gap rules and the texts of samples/");
+    println!("samples: the sample boards, gap rules, marks and the texts of samples/");
 }

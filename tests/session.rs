@@ -2,8 +2,9 @@
 
 use crate::berth::{Board, Report};
 use crate::filter::{self, Slots};
-use crate::host::{number_of, value_of, Host};
+use crate::host::{number_of, part_under, value_of, Fenced, Host};
 use crate::ledger::{self, Ledger};
+use crate::marks::Past;
 use crate::summary::table_of;
 use crate::tally::Tally;
 use std::ops::RangeInclusive;
@@ -16,6 +17,10 @@ pub struct Session<'a> {
     pub open: Slots,
     /// whether a gap rule began the draft
     gap_draft: bool,
+    /// the buffers at the last mark of each name
+    kept: [Option<[Fenced<u8>; 3]>; 2],
+    /// what became of each name
+    past: [Past; 2],
     pub tally: &'a mut Tally,
 }
 
@@ -24,15 +29,18 @@ fn touched_limits(kind: u8, struck: usize, reopened: usize, struck_before: usize
     match kind {
         ledger::PUT => struck..=struck,
         ledger::LIFT => reopened..=struck_before,
+        ledger::BACK => struck + reopened..=struck + reopened,
         _ => 0..=0,
     }
 }
 
 impl<'a> Session<'a> {
-    pub fn new(tally: &'a mut Tally) -> Self {
-        let (host, board, ledger) = (Host::fresh(), Board::new(), Ledger::default());
+    /// A fresh board beside these marks' bytes.
+    pub fn new(tally: &'a mut Tally, marks: &[u8]) -> Self {
+        let (host, board, ledger) = (Host::fresh_beside(&Fenced::new(marks)), Board::new(), Ledger::default());
         assert_eq!(host.value, value_of(&ledger), "the value before the first command");
-        let session = Session { host, board, ledger, open: vec![], gap_draft: false, tally };
+        let (kept, past) = ([None, None], [Past::Nothing; 2]);
+        let session = Session { host, board, ledger, open: vec![], gap_draft: false, kept, past, tally };
         session.check_board();
         session
     }
@@ -43,6 +51,7 @@ impl<'a> Session<'a> {
         assert_eq!(answer, self.board.command(bytes), "two answers to {bytes:?}");
         assert_eq!(number_of(&answer), refusal, "the refusal of {bytes:?}");
         self.tally.command(bytes, refusal, &self.ledger);
+        self.tally.marks.command(&mut self.past, bytes, &answer, &self.ledger);
         if let Ok(report) = answer {
             self.accepted(bytes, report, &before);
         }
@@ -60,8 +69,8 @@ impl<'a> Session<'a> {
             _ => (),
         }
         if refusal == 0 {
-            let kept = self.gap_draft && matches!(bytes[0], ledger::ROW | ledger::LIFT);
-            self.gap_draft = kept || bytes[0] == ledger::GAP;
+            let stays = self.gap_draft && matches!(bytes[0], ledger::ROW | ledger::LIFT | ledger::MARK);
+            self.gap_draft = stays || bytes[0] == ledger::GAP;
         }
     }
 
@@ -79,13 +88,26 @@ impl<'a> Session<'a> {
         self.ledger.obey(bytes);
         assert_eq!(self.host.value, value_of(&self.ledger), "the value after {bytes:?}");
         let open_before = self.open.clone();
-        if ledger::writes_draft_only(bytes[0]) {
+        if ledger::leaves_buffers(bytes[0]) {
             assert!(self.host.buffers == before.buffers, "{bytes:?} writes to the buffers");
         } else {
             self.open = filter::open_slots(&self.ledger);
             crate::records::check(&self.ledger, &self.open, self.host.memory());
         }
+        self.check_kept(bytes);
         self.check_report(bytes, report, &open_before);
+    }
+
+    /// Every byte that a back leaves is what it was at the mark. (host.rs asserts what the marks are after each command.)
+    fn check_kept(&mut self, bytes: &[u8]) {
+        match bytes {
+            [ledger::MARK, name] => self.kept[*name as usize] = Some(self.host.buffers.clone()),
+            [ledger::BACK, name] => {
+                let kept = self.kept[*name as usize].as_ref();
+                assert!(kept == Some(&self.host.buffers), "{bytes:?} leaves other bytes than were kept");
+            }
+            _ => (),
+        }
     }
 
     fn check_report(&mut self, bytes: &[u8], report: Report, open_before: &Slots) {
@@ -97,12 +119,16 @@ impl<'a> Session<'a> {
         self.tally.report(report);
     }
 
-    /// The wrapper's own board has come to hold the same, and a current table.
+    /// The wrapper's own board has come to hold the same, marks among it where a board is kept, and a current table.
     pub fn check_board(&self) {
         let (board, host) = (self.board.memory(), self.host.memory());
-        assert!(board.value == host.value, "the wrapper's board has another value");
+        assert!(*self.board.value() == self.host.value, "the wrapper's board has another value");
         let same = (board.rows, board.killers, board.slots) == (host.rows, host.killers, host.slots);
         assert!(same, "the wrapper's board has other bytes");
+        for name in (0..2).filter(|name| self.ledger.kept_under(*name).is_some()) {
+            let [board, host] = [self.board.marks(), self.host.marks.inside()].map(|marks| &marks[part_under(name)]);
+            assert!(board == host, "the wrapper's board keeps other bytes under the name {name}");
+        }
         assert_eq!(self.board.summaries(), &table_of(&self.ledger, &self.open), "the wrapper's summary table");
     }
 }

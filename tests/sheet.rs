@@ -3,7 +3,7 @@
 
 use crate::berth::Board;
 use crate::filter::{has, open_slots, report_of, Slots};
-use crate::ledger::{body_length, read_refusal, writes_draft_only, Ledger, LAST_KIND, LENGTHS, PUT};
+use crate::ledger::{body_length, leaves_buffers, read_refusal, Ledger, LAST_KIND, LENGTHS, PUT};
 use crate::random::Random;
 use crate::summary::open_sum;
 use crate::tally::Tally;
@@ -38,7 +38,7 @@ impl Sheet {
         tally.sheet_lines[kind as usize] += 1;
         self.ledger.obey(bytes);
         let before = self.open.clone();
-        if !writes_draft_only(kind) {
+        if !leaves_buffers(kind) {
             self.open = open_slots(&self.ledger);
         }
         let (struck, reopened) = report_of(kind, &before, &self.open);

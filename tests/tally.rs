@@ -1,7 +1,8 @@
 //! How often each thing was seen, so that the tests can say that they were not idle.
 
 use crate::berth::Report;
-use crate::ledger::{Ledger, BOARD, GAP, HEAD, LAST_KIND, LAST_REFUSAL, LIFT, PUT, ROW};
+use crate::ledger::{Ledger, BACK, BOARD, GAP, HEAD, LAST_KIND, LAST_REFUSAL, LIFT, MARK, PUT, ROW};
+use crate::marks::Marks;
 use std::collections::BTreeMap;
 
 /// How often each refusal was seen; at 0, none.
@@ -15,6 +16,8 @@ const REFUSALS_OF_KIND: [(u8, &[usize]); LAST_KIND as usize] = [
     (PUT, &[1, 22, 4, 6, 12, 16]),
     (LIFT, &[1, 22, 4, 6, 7, 17]),
     (GAP, &[1, 22, 4, 6, 7, 23, 9, 10, 24, 25]),
+    (MARK, &[1, 22, 4, 6, 26]),
+    (BACK, &[1, 22, 4, 6, 26, 27]),
 ];
 
 /// Gap rules in lists, and the drafts that they begin.
@@ -48,6 +51,7 @@ pub struct Tally {
     /// of the commands of lists, by their kind
     pub kinds: [Refusals; LAST_KIND as usize + 1],
     pub gaps: Gaps,
+    pub marks: Marks,
     pub struck: usize,
     pub reopened: usize,
     /// lifts that touched more slots than they reopened
@@ -94,6 +98,7 @@ impl Tally {
             println!("kind {kind} in lists: {}", decisions(&self.kinds[kind as usize]));
         }
         self.gaps.print();
+        self.marks.print();
     }
 
     /// Every refusal was seen, lifts reopened slots and struck some again, a board and a draft were full, and tables were altered.
@@ -102,6 +107,7 @@ impl Tally {
         assert!(!self.sheet_lines[1..].contains(&0), "no sheet shows a kind as accepted");
         self.check_kinds();
         self.gaps.check_complete();
+        self.marks.check_complete();
         assert!(self.reopened > 0 && self.struck_again > 0, "no lift did anything");
         assert!((self.most_rules, self.most_rows) == (64, 64), "no board was full");
         assert!(self.altered_tables > 0 && self.totals > 0, "no table was altered, or no sheet had a total");

@@ -1,7 +1,7 @@
 //! The writer of random commands: what a list is to do next is planned from the ledger, and some commands are damaged. Whether one is refused is not for the
 //! writer to know.
 
-use crate::ledger::{self, Ledger, BOARD, GAP, HEAD, LAST_KIND, LIFT, PUT, ROW};
+use crate::ledger::{self, Ledger, BACK, BOARD, GAP, HEAD, LAST_KIND, LIFT, MARK, PUT, ROW};
 use crate::random::Random;
 use std::collections::VecDeque;
 
@@ -19,14 +19,16 @@ pub struct Sizes {
     pub numbers: usize,
     /// in a hundred plans
     pub lifts: usize,
+    /// commands from one mark or back to the next, on average
+    pub marks: usize,
 }
 
 #[rustfmt::skip]
 pub const SIZES: [Sizes; 4] = [
-    Sizes { name: "small", lists: 4000, commands: 120, calls: (1, 5), slots: (1, 4), rows: 10, numbers: 9, lifts: 50 },
-    Sizes { name: "middle", lists: 500, commands: 400, calls: (3, 12), slots: (2, 12), rows: 40, numbers: 24, lifts: 40 },
-    Sizes { name: "large", lists: 70, commands: 1200, calls: (20, 32), slots: (16, 32), rows: 64, numbers: 64, lifts: 35 },
-    Sizes { name: "full", lists: 5, commands: 7000, calls: (32, 32), slots: (32, 32), rows: 64, numbers: 64, lifts: 8 },
+    Sizes { name: "small", lists: 4000, commands: 120, calls: (1, 5), slots: (1, 4), rows: 10, numbers: 9, lifts: 50, marks: 15 },
+    Sizes { name: "middle", lists: 500, commands: 400, calls: (3, 12), slots: (2, 12), rows: 40, numbers: 24, lifts: 40, marks: 30 },
+    Sizes { name: "large", lists: 70, commands: 1200, calls: (20, 32), slots: (16, 32), rows: 64, numbers: 64, lifts: 35, marks: 60 },
+    Sizes { name: "full", lists: 5, commands: 9000, calls: (32, 32), slots: (32, 32), rows: 64, numbers: 64, lifts: 8, marks: 300 },
 ];
 
 pub struct Writer {
@@ -48,8 +50,12 @@ impl Writer {
         Writer { random: Random(seed), sizes, plan: VecDeque::new() }
     }
 
-    /// The next command. About one in eight is a damaged copy of what is planned, which then comes all the same; now and then a plan is given up.
+    /// The next command. About one in eight is a damaged copy of what is planned, which then comes all the same; now and then a plan is given up. Marks and backs
+    /// come at any time.
     pub fn next(&mut self, ledger: &Ledger) -> Vec<u8> {
+        if self.random.below(self.sizes.marks) == 0 {
+            self.mark_or_back(ledger);
+        }
         if self.plan.is_empty() || self.random.below(200) == 0 {
             self.plan = self.new_plan(ledger).into();
         }
@@ -76,6 +82,19 @@ impl Writer {
             return self.gap_rule(ledger);
         }
         self.rule(ledger)
+    }
+
+    /// A mark comes before what is planned. A back mostly comes in place of it, since it drops the draft.
+    fn mark_or_back(&mut self, ledger: &Ledger) {
+        let random = &mut self.random;
+        if random.percent(65) {
+            self.plan.push_front(vec![MARK, some_name(random)]);
+            return;
+        }
+        if random.percent(80) {
+            self.plan.clear();
+        }
+        self.plan.push_front(vec![BACK, kept_name(random, ledger)]);
     }
 
     /// A number for a rule, mostly a free one.
@@ -225,6 +244,24 @@ pub fn any_gap_rule(random: &mut Random) -> Vec<u8> {
     command(GAP, &fields)
 }
 
+/// A mark's name, mostly a right one.
+pub fn some_name(random: &mut Random) -> u8 {
+    if random.percent(90) {
+        random.below(2) as u8
+    } else {
+        *random.choose(&[2, 3, 64, 128, 254, 255])
+    }
+}
+
+/// Mostly a name that keeps a board, and of two the one with more rules, so that boards become full.
+fn kept_name(random: &mut Random, ledger: &Ledger) -> u8 {
+    let kept = (0..2).filter_map(|name| Some((ledger.kept_under(name)?.rules.len(), name)));
+    match kept.max() {
+        Some((_, name)) if random.percent(60) => name,
+        _ => some_name(random),
+    }
+}
+
 /// A command of any kind with any fields, many of them near what a board takes.
 pub fn any_command(random: &mut Random) -> Vec<u8> {
     let kind = random.below(LAST_KIND as usize + 2) as u8;
@@ -240,6 +277,7 @@ pub fn any_command(random: &mut Random) -> Vec<u8> {
         }
         ROW if random.percent(70) => bytes[1 + columns..].fill(255),
         GAP if random.percent(70) => bytes[1] = random.between((1, 3)) as u8,
+        MARK | BACK if random.percent(70) => bytes[1] = some_name(random),
         _ => (),
     }
     bytes

@@ -13,6 +13,8 @@ Without FILE, or where it is -, the input is standard input. The lines:
     before 1 0 2 3     a draft of rule 1: the slot of call 0 is 3 or more before that of call 2
     apart 1 0 2 3      a draft of rule 1: the slots of calls 0 and 2 are 3 or more apart
     same 1 0 2         a draft of rule 1: the slots of calls 0 and 2 are the same
+    mark 0             the board is kept under the name 0; the names are 0 and 1
+    back 0             the board that is kept under the name 0 is brought back, without a draft, and stays kept
     bytes 9 255 0      these bytes as they stand, whatever they are
 
 A draft by before, apart or same has every pair of slots that fits as a row, and more rows may follow. Left out, counts are 0, calls
@@ -35,6 +37,8 @@ WORDS = {
     "before": ([6, 1], 4, 4, 0),
     "apart": ([6, 2], 4, 4, 0),
     "same": ([6, 3], 3, 4, 0),
+    "mark": ([7], 1, 1, 0),
+    "back": ([8], 1, 1, 0),
 }
 # how many bytes a command of each kind has
 LENGTHS = {start[0]: len(start) + most for start, _, most, _ in WORDS.values()}

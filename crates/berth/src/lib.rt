@@ -1,6 +1,6 @@
-// The board for hosts in C and Rust: the entries and the five questions under their C names. The value beside the buffers is a plain C struct: lent by
-// pointer to the two functions that write it, and handed by value to the questions. The summary table is a slice of C structs. hosts/berth.h says the same for C, and
-// two numbers tell a host whether its header is this library's.
+// The board for hosts in C and Rust: the entries and the five questions under their C names. What a host holds beside the buffers is a plain C struct of two parts, the
+// board's value and the names of the marks. Both are lent by pointer to the two functions that write them; the questions are handed the board's value by value. The
+// summary table is a slice of C structs. hosts/berth.h says the same for C, and two numbers tell a host whether its header is this library's.
 // Proved: each reply hands on an answer that keeps its promise of the model's specs, on any value and any buffers. Assumed: nothing here; of a host, that a
 // lent pointer reaches as far as its length says, and that nothing lent to one call overlaps.
 pub mod reply; // the answers as C structs
@@ -12,20 +12,22 @@ use crate::reply::RowReply;
 use crate::reply::SlotsReply;
 use crate::reply::StateReply;
 use crate::reply::SupportReply;
+use layout::names::MarkedValue;
+use layout::names::NAMES;
 use layout::summary::Summary;
 use layout::value::Value;
 ghost use mathlib.Core.Path.{_≡_};
 ghost use Rattle.model.specs.Questions.{SlotsPromise, StatePromise, RowPromise, SupportPromise};
 ghost use Rattle.berth.specs.Replies.{Replied, CommandReplied, ReplayReplied, PlaceReplied, slotsReply, stateReply, rowReply, supportReply};
-ghost use Rattle.layout.specs.Value.{freshValue};
-ghost use Rattle.layout.specs.Memory.{memory, wholeOf};
+ghost use Rattle.layout.specs.Names.{freshMarked};
+ghost use Rattle.layout.specs.Memory.{memory, markedMemory, wholeOf};
 ghost use Rattle.berth.specs.Version.{interfaceVersion, valueSize};
 
 // A host compares these two with what its header says. They take and return plain numbers, so that a host of any version can ask.
-const VERSION: u32 = 5;
+const VERSION: u32 = 6;
 
-// The bytes of `Value`: 416 of the heads and 263 of the draft.
-const VALUE_SIZE: usize = 679;
+// The bytes of `MarkedValue`: 416 of the heads, 263 of the draft, and 834 of the names.
+const VALUE_SIZE: usize = 1513;
 
 #[no_mangle]
 pub extern "C" fn berth_version() -> u32
@@ -41,29 +43,31 @@ pub extern "C" fn berth_value_size() -> usize
     VALUE_SIZE
 }
 
-// The value beside the buffers before the first command.
+// All that is held beside the buffers, before the first command.
 #[no_mangle]
-pub extern "C" fn berth_fresh() -> Value
-    ensures { λ r. ⌜ r ≡ freshValue ⌝ }
+pub extern "C" fn berth_fresh() -> MarkedValue
+    ensures { λ r. ⌜ r ≡ freshMarked ⌝ }
 {
-    Value::fresh()
+    MarkedValue::fresh()
 }
 
-// A command. Value, buffers and table are written in place, and stay as they were where the command is refused.
+// A command. Value, names, buffers and table are written in place, and stay as they were where the command is refused.
 #[no_mangle]
 pub extern "C" fn berth_command(
     value: &mut Value,
+    names: &mut [u8; NAMES],
     bytes: &[u8],
     rows: &mut [u8],
     killers: &mut [u8],
     slots: &mut [u8],
+    marks: &mut [u8],
     table: &mut [Summary],
 ) -> CommandReply
     ensures { λ r. ⌜ CommandReplied
-        (now (bytes .entry)) (wholeOf (memory (now (value .entry)) (rows .entry) (killers .entry) (slots .entry)) (now (table .entry))) r
-        (wholeOf (memory (now (value .exit)) (rows .exit) (killers .exit) (slots .exit)) (now (table .exit))) ⌝ }
+        (now (bytes .entry)) (wholeOf (markedMemory (now (value .entry)) (names .entry) (rows .entry) (killers .entry) (slots .entry) (marks .entry)) (now (table .entry))) r
+        (wholeOf (markedMemory (now (value .exit)) (names .exit) (rows .exit) (killers .exit) (slots .exit) (marks .exit)) (now (table .exit))) ⌝ }
 {
-    let outcome = board::command(*value, bytes, rows, killers, slots, table);
+    let outcome = board::command(*value, names, bytes, rows, killers, slots, marks, table);
     *value = outcome.value;
     reply::of_outcome(outcome)
 }
@@ -73,17 +77,19 @@ pub extern "C" fn berth_command(
 #[no_mangle]
 pub extern "C" fn berth_replay(
     value: &mut Value,
+    names: &mut [u8; NAMES],
     file: &[u8],
     rows: &mut [u8],
     killers: &mut [u8],
     slots: &mut [u8],
+    marks: &mut [u8],
     table: &mut [Summary],
 ) -> ReplayReply
     ensures { λ r. ⌜ ReplayReplied
-        (now (file .entry)) (wholeOf (memory (now (value .entry)) (rows .entry) (killers .entry) (slots .entry)) (now (table .entry))) r
-        (wholeOf (memory (now (value .exit)) (rows .exit) (killers .exit) (slots .exit)) (now (table .exit))) ⌝ }
+        (now (file .entry)) (wholeOf (markedMemory (now (value .entry)) (names .entry) (rows .entry) (killers .entry) (slots .entry) (marks .entry)) (now (table .entry))) r
+        (wholeOf (markedMemory (now (value .exit)) (names .exit) (rows .exit) (killers .exit) (slots .exit) (marks .exit)) (now (table .exit))) ⌝ }
 {
-    let replayed = board::replay(*value, file, rows, killers, slots, table);
+    let replayed = board::replay(*value, names, file, rows, killers, slots, marks, table);
     *value = replayed.value;
     reply::of_replayed(replayed)
 }

@@ -14,13 +14,13 @@ use Rattle.model.specs.Numbers as refused
 use Rattle.layout.specs.declared.value.Value.{Value}
 use Rattle.layout.specs.declared.summary.Summary.{Summary}
 use Rattle.layout.specs.Summary.{noTable}
-use Rattle.layout.specs.Memory.{State, Whole, wholeOf, lentWith, freshState, freshWhole, Filled}
+use Rattle.layout.specs.Memory.{MarkedState, Whole, wholeOf, lentWith, freshMarkedState, freshWhole, Filled}
 use Rattle.layout.specs.Sizes.{CommandLent, killersLength, rowsLength, slotsLength, recordsLength}
 use Rattle.board.specs.declared.file.Position.{Position}
 use Rattle.board.specs.declared.file.ReplayDone.{ReplayDone}
-use Rattle.board.specs.Lists.{After}
 use Rattle.model.specs.declared.answer.Answer.{Answer}
 use Rattle.model.specs.Ledger.{lentConditions, lengths, member}
+use Rattle.model.specs.Lists.{After}
 use Rattle.model.specs.Promise.{MemoryPromise}
 
 -- the bytes from a place up to another
@@ -63,15 +63,16 @@ pub record ReplayPromise (before : Whole) (file : List ℕ) (number ran : ℕ) (
   -- refused 1, 22 or 2, nothing is changed and nothing was run
   pub unchanged : (n : ℕ) → firstOf (replayConditions (lentWith before) file) ≡ suc n → after ≡ before
   pub none-ran : (n : ℕ) → firstOf (replayConditions (lentWith before) file) ≡ suc n → ran ≡ 0
-  -- else what is left stands after the file's commands, entered one after another on a fresh board, whatever the memory held
-  pub stands : firstOf (replayConditions (lentWith before) file) ≡ 0 → After (map member (fileCommands file)) after
+  -- else what is left stands after the file's commands, entered one after another on a fresh board, whatever the memory held; the marks' bytes were those before
+  pub stands : firstOf (replayConditions (lentWith before) file) ≡ 0 → After (before .marked .marks) (map member (fileCommands file)) after
   pub all-ran : firstOf (replayConditions (lentWith before) file) ≡ 0 → ran ≡ length (fileCommands file)
 
--- A FRESH BOARD IN LENT MEMORY (SCOPE 2.8), whatever it held: refused 1 or 22 with nothing changed, or made fresh. A file without commands does it
+-- A FRESH BOARD IN LENT MEMORY (SCOPE 2.8), whatever it held: refused 1 or 22 with nothing changed, or made fresh beside the marks' bytes as they were. A file without
+-- commands does it
 pub record FreshPromise (before : Whole) (number : ℕ) (after : Whole) : Type 0 where
   pub number-is : number ≡ firstOf (lentConditions (lentWith before))
   pub unchanged : (n : ℕ) → number ≡ suc n → after ≡ before
-  pub made : number ≡ 0 → after ≡ freshWhole
+  pub made : number ≡ 0 → after ≡ freshWhole (before .marked .marks)
 
 -- the three buffers of a fresh board, byte by byte
 pub record FreshBuffers (rows killers slots : List ℕ) : Type 0 where
@@ -79,12 +80,12 @@ pub record FreshBuffers (rows killers slots : List ℕ) : Type 0 where
   pub killers-filled : Filled killersLength 255 killers
   pub slots-filled : Filled slotsLength 254 slots
 
--- the memory is a fresh board's
-pub record IsFresh (s : State) : Type 0 where
-  pub is : s ≡ freshState
+-- the memory is a fresh board's, beside these marks' bytes
+pub record IsFresh (marks : List ℕ) (m : MarkedState) : Type 0 where
+  pub is : m ≡ freshMarkedState marks
 
 -- ONE ROUND from p to q. A command is obeyed, and the next place is the one behind it
-pub record CommandTaken (following : ℕ) (file : List ℕ) (p : Position) (before : State) (q : Position) (after : State) : Type 0 where
+pub record CommandTaken (following : ℕ) (file : List ℕ) (p : Position) (before : MarkedState) (q : Position) (after : MarkedState) : Type 0 where
   pub place : q .at ≡ following
   pub count : q .ran ≡ p .ran + 1
   pub end : q .number ≡ 0
@@ -92,18 +93,18 @@ pub record CommandTaken (following : ℕ) (file : List ℕ) (p : Position) (befo
   pub promise : MemoryPromise lengths before (partOf file (p .at) following) given after
 
 -- or the file ends, under a number
-pub record FileEnded (n : ℕ) (file : List ℕ) (p : Position) (before : State) (q : Position) (after : State) : Type 0 where
+pub record FileEnded (n : ℕ) (file : List ℕ) (p : Position) (before : MarkedState) (q : Position) (after : MarkedState) : Type 0 where
   pub place : q .at ≡ length file
   pub count : q .ran ≡ p .ran
   pub end : q .number ≡ n
   pub same : after ≡ before
 
-abbrev pub TakenBy : Read → ℕ → List ℕ → Position → State → Position → State → Type 0
+abbrev pub TakenBy : Read → ℕ → List ℕ → Position → MarkedState → Position → MarkedState → Type 0
 TakenBy (found.Command c) following file p before q after = CommandTaken following file p before q after
 TakenBy (found.Refused k n) following file p before q after = FileEnded n file p before q after
 TakenBy found.End following file p before q after = FileEnded 0 file p before q after
 
-pub record Taken (file : List ℕ) (p : Position) (before : State) (q : Position) (after : State) : Type 0 where
+pub record Taken (file : List ℕ) (p : Position) (before : MarkedState) (q : Position) (after : MarkedState) : Type 0 where
   pub by : TakenBy (readAt file (p .at) .read) (readAt file (p .at) .next) file p before q after
 
 -- A ROUND MAY BE TAKEN: there is something to read, and no more commands than bytes were run
@@ -111,12 +112,12 @@ pub record InFile (file : List ℕ) (p : Position) : Type 0 where
   pub further : p .at < length file
   pub few : p .ran ≤ p .at
 
--- BETWEEN TWO ROUNDS: the commands that were entered and those that are left, at most so many, are all of the file's. The state stands after those that were entered,
--- with the table that they would have left
-pub record TakenTo (file : List ℕ) (p : Position) (s : State) : Type 0 where
+-- BETWEEN TWO ROUNDS: the commands that were entered and those that are left, at most so many, are all of the file's. The memory stands after those that were entered,
+-- with the table that they would have left, where the marks' bytes were these at first
+pub record TakenTo (first file : List ℕ) (p : Position) (m : MarkedState) : Type 0 where
   pub taken : List (List ℕ)
   pub table : List Summary
-  pub stands : After (map member taken) (wholeOf s table)
+  pub stands : After first (map member taken) (wholeOf m table)
   pub count : p .ran ≡ length taken
   pub few : p .ran ≤ p .at
   pub inside : p .at ≤ length file
@@ -127,15 +128,15 @@ pub record TakenTo (file : List ℕ) (p : Position) (s : State) : Type 0 where
   pub over : length file ≤ p .at → p .number ≡ fileEnd file
 
 -- AFTER THE LAST: what was run is the file's commands, and the number is how it ends
-pub record FileTaken (file : List ℕ) (number ran : ℕ) (s : State) : Type 0 where
+pub record FileTaken (first file : List ℕ) (number ran : ℕ) (m : MarkedState) : Type 0 where
   pub table : List Summary
-  pub stands : After (map member (fileCommands file)) (wholeOf s table)
+  pub stands : After first (map member (fileCommands file)) (wholeOf m table)
   pub count : ran ≡ length (fileCommands file)
   pub end : number ≡ fileEnd file
 
 -- and with the records that were counted then, all of which are to be stored
-pub record FileCounted (file : List ℕ) (number ran records : ℕ) (w : Whole) : Type 0 where
-  pub stands : After (map member (fileCommands file)) w
+pub record FileCounted (first file : List ℕ) (number ran records : ℕ) (w : Whole) : Type 0 where
+  pub stands : After first (map member (fileCommands file)) w
   pub count : ran ≡ length (fileCommands file)
   pub end : number ≡ fileEnd file
   pub all : records ≡ recordsLength

@@ -1,19 +1,23 @@
 // A file of commands is replayed on a fresh board: each is obeyed as the command entry does, up to the file's end or the first that cannot be read. The records of the
 // table are counted once, at the end.
 use crate::run::obey_bytes;
-use command_board::new_board::fill;
+use layout::fill::fill;
+use layout::marks::bad_buffers;
+use layout::names::NAMES;
+use layout::names::forget;
 use layout::summary::RECORDS;
 use layout::summary::Table;
 use layout::value::Value;
-use layout::value::bad_lengths;
 use model::command::Read;
 use model::refusal::BUFFER_LENGTH;
 use model::refusal::FILE_LENGTH;
 use model::refusal::TABLE_LENGTH;
 use summary_counts::records::table_of;
 ghost use mathlib.Core.Path.{_≡_};
+ghost use lib.ListN.{length};
 ghost use Rattle.layout.specs.Bounds.{Sizes};
-ghost use Rattle.layout.specs.Memory.{memory, wholeOf};
+ghost use Rattle.layout.specs.Memory.{markedMemory, wholeOf};
+ghost use Rattle.layout.specs.Sizes.{marksLength};
 ghost use Rattle.board.specs.Store.{Stores};
 ghost use Rattle.board.specs.Replay.{FreshBuffers, ReplayPromise, IsFresh, InFile, Taken, FileTaken, FileCounted, noneReplayed};
 
@@ -59,16 +63,19 @@ fn fill_fresh(rows: &mut [u8], killers: &mut [u8], slots: &mut [u8])
 // What stands at the place: a command is run, and anything else ends the file.
 fn take_next(
     position: Position,
+    names: &mut [u8; NAMES],
     file: &[u8],
     rows: &mut [u8],
     killers: &mut [u8],
     slots: &mut [u8],
+    marks: &mut [u8],
 ) -> Position
     requires { ⌜ Sizes (now rows) (now killers) (now slots) ⌝ }
+    requires { ⌜ length (now marks) ≡ marksLength ⌝ }
     requires { ⌜ InFile (now file) position ⌝ }
     ensures { λ r. ⌜ Taken
-        (now (file .entry)) position (memory (position .value) (rows .entry) (killers .entry) (slots .entry)) r
-        (memory (r .value) (rows .exit) (killers .exit) (slots .exit)) ⌝ }
+        (now (file .entry)) position (markedMemory (position .value) (names .entry) (rows .entry) (killers .entry) (slots .entry) (marks .entry)) r
+        (markedMemory (r .value) (names .exit) (rows .exit) (killers .exit) (slots .exit) (marks .exit)) ⌝ }
 {
     let value = position.value;
     let at = position.at;
@@ -79,7 +86,7 @@ fn take_next(
     let end = file.len();
     match read {
         Read::Command(_) => {
-            let outcome = obey_bytes(value, &file[at..next], rows, killers, slots);
+            let outcome = obey_bytes(value, names, &file[at..next], rows, killers, slots, marks);
             let left = outcome.value;
             Position {
                 value: left,
@@ -106,15 +113,18 @@ fn take_next(
 // On a value and buffers that are fresh.
 fn take_all(
     value: Value,
+    names: &mut [u8; NAMES],
     file: &[u8],
     rows: &mut [u8],
     killers: &mut [u8],
     slots: &mut [u8],
+    marks: &mut [u8],
 ) -> Replayed
     requires { ⌜ Sizes (now rows) (now killers) (now slots) ⌝ }
-    requires { ⌜ IsFresh (memory value rows killers slots) ⌝ }
+    requires { ⌜ length (now marks) ≡ marksLength ⌝ }
+    requires { ⌜ IsFresh (now marks) (markedMemory value names rows killers slots marks) ⌝ }
     ensures { λ r. ⌜ FileTaken
-        (now (file .entry)) (r .number) (r .ran) (memory (r .value) (rows .exit) (killers .exit) (slots .exit)) ⌝ }
+        (now (marks .entry)) (now (file .entry)) (r .number) (r .ran) (markedMemory (r .value) (names .exit) (rows .exit) (killers .exit) (slots .exit) (marks .exit)) ⌝ }
 {
     let mut position = Position {
         value,
@@ -123,7 +133,7 @@ fn take_all(
         number: 0,
     };
     while position.at < file.len() {
-        position = take_next(position, file, rows, killers, slots);
+        position = take_next(position, names, file, rows, killers, slots, marks);
     }
     let left = position.value;
     Replayed {
@@ -134,14 +144,23 @@ fn take_all(
 }
 
 // The board is made fresh, whatever the memory held, the file's commands are run on it, and the records are counted.
-fn run_file(file: &[u8], rows: &mut [u8], killers: &mut [u8], slots: &mut [u8]) -> ReplayDone
+fn run_file(
+    names: &mut [u8; NAMES],
+    file: &[u8],
+    rows: &mut [u8],
+    killers: &mut [u8],
+    slots: &mut [u8],
+    marks: &mut [u8],
+) -> ReplayDone
     requires { ⌜ Sizes (now rows) (now killers) (now slots) ⌝ }
+    requires { ⌜ length (now marks) ≡ marksLength ⌝ }
     ensures { λ r. ⌜ FileCounted
-        (now (file .entry)) (r .replayed .number) (r .replayed .ran) (r .count)
-        (wholeOf (memory (r .replayed .value) (rows .exit) (killers .exit) (slots .exit)) (r .table .records)) ⌝ }
+        (now (marks .entry)) (now (file .entry)) (r .replayed .number) (r .replayed .ran) (r .count)
+        (wholeOf (markedMemory (r .replayed .value) (names .exit) (rows .exit) (killers .exit) (slots .exit) (marks .exit)) (r .table .records)) ⌝ }
 {
     fill_fresh(rows, killers, slots);
-    let replayed = take_all(Value::fresh(), file, rows, killers, slots);
+    forget(names);
+    let replayed = take_all(Value::fresh(), names, file, rows, killers, slots, marks);
     let value = replayed.value;
     let heads = value.heads;
     let table = table_of(heads, slots);
@@ -170,19 +189,21 @@ fn refused(n: u8, value: Value) -> ReplayDone
 // The file with a table of n records.
 pub fn replay_core(
     value: Value,
+    names: &mut [u8; NAMES],
     file: &[u8],
     rows: &mut [u8],
     killers: &mut [u8],
     slots: &mut [u8],
+    marks: &mut [u8],
     n: usize,
 ) -> ReplayDone
     ensures { λ r. ⌜ Stores
         (λ old new. ReplayPromise
-        (wholeOf (memory value (rows .entry) (killers .entry) (slots .entry)) old) (now (file .entry)) (r .replayed .number) (r .replayed .ran)
-        (wholeOf (memory (r .replayed .value) (rows .exit) (killers .exit) (slots .exit)) new))
+        (wholeOf (markedMemory value (names .entry) (rows .entry) (killers .entry) (slots .entry) (marks .entry)) old) (now (file .entry)) (r .replayed .number) (r .replayed .ran)
+        (wholeOf (markedMemory (r .replayed .value) (names .exit) (rows .exit) (killers .exit) (slots .exit) (marks .exit)) new))
         n (r .count) (r .table .records) ⌝ }
 {
-    if bad_lengths(rows, killers, slots) {
+    if bad_buffers(rows, killers, slots, marks) {
         return refused(BUFFER_LENGTH, value);
     }
     if n != RECORDS {
@@ -191,5 +212,5 @@ pub fn replay_core(
     if FILE < file.len() {
         return refused(FILE_LENGTH, value);
     }
-    run_file(file, rows, killers, slots)
+    run_file(names, file, rows, killers, slots, marks)
 }

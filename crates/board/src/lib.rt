@@ -8,6 +8,8 @@ mod file; // a file of commands
 pub use crate::file::Replayed;
 use crate::file::replay_core;
 use crate::run::command_core;
+pub use layout::names::MarkedValue;
+use layout::names::NAMES;
 pub use layout::summary::Summary;
 pub use layout::value::Value;
 pub use model::answer::Answer;
@@ -24,7 +26,7 @@ pub use questions::slot_state;
 pub use questions::support;
 use summary_store::store_records;
 ghost use Rattle.model.specs.Promise.{Promise};
-ghost use Rattle.layout.specs.Memory.{memory, wholeOf};
+ghost use Rattle.layout.specs.Memory.{markedMemory, wholeOf};
 ghost use Rattle.board.specs.Replay.{ReplayPromise};
 
 // Refused, and the value, all buffers and the table are as they were; or accepted, and they are those of the board after the command, the table whatever it held. A
@@ -32,18 +34,20 @@ ghost use Rattle.board.specs.Replay.{ReplayPromise};
 // command 4.
 pub fn command(
     value: Value,
+    names: &mut [u8; NAMES],
     bytes: &[u8],
     rows: &mut [u8],
     killers: &mut [u8],
     slots: &mut [u8],
+    marks: &mut [u8],
     table: &mut [Summary],
 ) -> Outcome
     ensures { λ r. ⌜ Promise
-        (wholeOf (memory value (rows .entry) (killers .entry) (slots .entry)) (now (table .entry))) (now (bytes .entry)) (r .answer)
-        (wholeOf (memory (r .value) (rows .exit) (killers .exit) (slots .exit)) (now (table .exit))) ⌝ }
+        (wholeOf (markedMemory value (names .entry) (rows .entry) (killers .entry) (slots .entry) (marks .entry)) (now (table .entry))) (now (bytes .entry)) (r .answer)
+        (wholeOf (markedMemory (r .value) (names .exit) (rows .exit) (killers .exit) (slots .exit) (marks .exit)) (now (table .exit))) ⌝ }
 {
     let n = table.len();
-    let done = command_core(value, bytes, rows, killers, slots, n);
+    let done = command_core(value, names, bytes, rows, killers, slots, marks, n);
     store_records(table, done.table, done.count);
     done.outcome
 }
@@ -52,18 +56,20 @@ pub fn command(
 // on it. A file without commands leaves the fresh board.
 pub fn replay(
     value: Value,
+    names: &mut [u8; NAMES],
     file: &[u8],
     rows: &mut [u8],
     killers: &mut [u8],
     slots: &mut [u8],
+    marks: &mut [u8],
     table: &mut [Summary],
 ) -> Replayed
     ensures { λ r. ⌜ ReplayPromise
-        (wholeOf (memory value (rows .entry) (killers .entry) (slots .entry)) (now (table .entry))) (now (file .entry)) (r .number) (r .ran)
-        (wholeOf (memory (r .value) (rows .exit) (killers .exit) (slots .exit)) (now (table .exit))) ⌝ }
+        (wholeOf (markedMemory value (names .entry) (rows .entry) (killers .entry) (slots .entry) (marks .entry)) (now (table .entry))) (now (file .entry)) (r .number) (r .ran)
+        (wholeOf (markedMemory (r .value) (names .exit) (rows .exit) (killers .exit) (slots .exit) (marks .exit)) (now (table .exit))) ⌝ }
 {
     let n = table.len();
-    let done = replay_core(value, file, rows, killers, slots, n);
+    let done = replay_core(value, names, file, rows, killers, slots, marks, n);
     store_records(table, done.table, done.count);
     done.replayed
 }

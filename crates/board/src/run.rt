@@ -1,9 +1,10 @@
 // A command on value and buffers, and the records that it leaves for the table. The table itself is not here: its length is a number, so that 22 is decided with the
 // other refusals, and the records are handed on by value with how many of them are to be stored.
+use layout::marks::bad_buffers;
+use layout::names::NAMES;
 use layout::summary::RECORDS;
 use layout::summary::Table;
 use layout::value::Value;
-use layout::value::bad_lengths;
 use model::answer::Answer;
 use model::answer::Outcome;
 use model::command::Decoded;
@@ -19,8 +20,8 @@ ghost use Rattle.model.specs.Commands.{readAt};
 ghost use Rattle.model.specs.Ledger.{lengths};
 ghost use Rattle.model.specs.Promise.{MemoryPromise, Promise};
 ghost use Rattle.layout.specs.Bounds.{Sizes};
-ghost use Rattle.layout.specs.Memory.{memory, wholeOf};
-ghost use Rattle.layout.specs.Sizes.{slotsLength};
+ghost use Rattle.layout.specs.Memory.{markedMemory, wholeOf};
+ghost use Rattle.layout.specs.Sizes.{slotsLength, marksLength};
 ghost use Rattle.board.specs.Store.{Stores, WithRecords, noneToStore};
 
 // What is left of a command: its outcome, and the first so many records to be stored, none or all.
@@ -33,17 +34,20 @@ pub struct Done {
 // What was read at the first byte is refused by its form, or obeyed.
 fn obey_read(
     value: Value,
+    names: &mut [u8; NAMES],
     decoded: Decoded,
     bytes: &[u8],
     rows: &mut [u8],
     killers: &mut [u8],
     slots: &mut [u8],
+    marks: &mut [u8],
 ) -> Outcome
     requires { ⌜ Sizes (now rows) (now killers) (now slots) ⌝ }
+    requires { ⌜ length (now marks) ≡ marksLength ⌝ }
     requires { ⌜ decoded ≡ readAt (now bytes) 0 ⌝ }
     ensures { λ o. ⌜ MemoryPromise lengths
-        (memory value (rows .entry) (killers .entry) (slots .entry)) (now (bytes .entry))
-        (o .answer) (memory (o .value) (rows .exit) (killers .exit) (slots .exit)) ⌝ }
+        (markedMemory value (names .entry) (rows .entry) (killers .entry) (slots .entry) (marks .entry)) (now (bytes .entry))
+        (o .answer) (markedMemory (o .value) (names .exit) (rows .exit) (killers .exit) (slots .exit) (marks .exit)) ⌝ }
 {
     let read = decoded.read;
     let counts = decoded.counts;
@@ -52,7 +56,7 @@ fn obey_read(
             if decoded.next < bytes.len() {
                 Outcome::refused(BODY_LENGTH, value)
             } else {
-                command_obey::obey(value, c, counts, rows, killers, slots)
+                command_obey::obey(value, names, c, counts, rows, killers, slots, marks)
             }
         }
         Read::Refused(_, n) => Outcome::refused(n, value),
@@ -63,18 +67,21 @@ fn obey_read(
 // The command on buffers of the right lengths.
 pub fn obey_bytes(
     value: Value,
+    names: &mut [u8; NAMES],
     bytes: &[u8],
     rows: &mut [u8],
     killers: &mut [u8],
     slots: &mut [u8],
+    marks: &mut [u8],
 ) -> Outcome
     requires { ⌜ Sizes (now rows) (now killers) (now slots) ⌝ }
+    requires { ⌜ length (now marks) ≡ marksLength ⌝ }
     ensures { λ r. ⌜ MemoryPromise lengths
-        (memory value (rows .entry) (killers .entry) (slots .entry)) (now (bytes .entry))
-        (r .answer) (memory (r .value) (rows .exit) (killers .exit) (slots .exit)) ⌝ }
+        (markedMemory value (names .entry) (rows .entry) (killers .entry) (slots .entry) (marks .entry)) (now (bytes .entry))
+        (r .answer) (markedMemory (r .value) (names .exit) (rows .exit) (killers .exit) (slots .exit) (marks .exit)) ⌝ }
 {
     let decoded = command_decode::decode(bytes, 0);
-    obey_read(value, decoded, bytes, rows, killers, slots)
+    obey_read(value, names, decoded, bytes, rows, killers, slots, marks)
 }
 
 // Nothing is to be stored.
@@ -112,24 +119,26 @@ fn with_records(outcome: Outcome, slots: &[u8]) -> Done
 // The command with a table of n records.
 pub fn command_core(
     value: Value,
+    names: &mut [u8; NAMES],
     bytes: &[u8],
     rows: &mut [u8],
     killers: &mut [u8],
     slots: &mut [u8],
+    marks: &mut [u8],
     n: usize,
 ) -> Done
     ensures { λ r. ⌜ Stores
         (λ old new. Promise
-        (wholeOf (memory value (rows .entry) (killers .entry) (slots .entry)) old) (now (bytes .entry)) (r .outcome .answer)
-        (wholeOf (memory (r .outcome .value) (rows .exit) (killers .exit) (slots .exit)) new))
+        (wholeOf (markedMemory value (names .entry) (rows .entry) (killers .entry) (slots .entry) (marks .entry)) old) (now (bytes .entry)) (r .outcome .answer)
+        (wholeOf (markedMemory (r .outcome .value) (names .exit) (rows .exit) (killers .exit) (slots .exit) (marks .exit)) new))
         n (r .count) (r .table .records) ⌝ }
 {
-    if bad_lengths(rows, killers, slots) {
+    if bad_buffers(rows, killers, slots, marks) {
         return none_to_store(Outcome::refused(BUFFER_LENGTH, value));
     }
     if n != RECORDS {
         return none_to_store(Outcome::refused(TABLE_LENGTH, value));
     }
-    let outcome = obey_bytes(value, bytes, rows, killers, slots);
+    let outcome = obey_bytes(value, names, bytes, rows, killers, slots, marks);
     with_records(outcome, slots)
 }

@@ -1,4 +1,5 @@
 // Kind 1: a new board. Every byte of the three buffers is written, whatever they held.
+use layout::fill::fill;
 use layout::value::Draft;
 use layout::value::Heads;
 use layout::value::SLOTS;
@@ -10,7 +11,7 @@ ghost use Prim.Native.Nat.{_<_};
 ghost use lib.ListN.{length};
 ghost use Rattle.model.specs.Ledger.{badCounts?};
 ghost use Rattle.command_board.specs.Made.{badCount?, slotByte, SlotsMade, BuffersCleared, bareValue, MakesBoard};
-ghost use Rattle.layout.specs.Memory.{memory, Filled};
+ghost use Rattle.layout.specs.Memory.{memory};
 ghost use Rattle.layout.specs.Sizes.{killersLength, rowsLength, slotsLength};
 
 // Whether a count n is over 32, or is another than 0 where a 0 came before it.
@@ -36,17 +37,6 @@ fn bad_counts(counts: &[u8; 32]) -> bool
         j += 1;
     }
     counts[0] == 0
-}
-
-// Writes v to every byte.
-pub fn fill(buffer: &mut [u8], v: u8)
-    ensures { λ _. ⌜ Filled (length (now (buffer .entry))) v (now (buffer .exit)) ⌝ }
-{
-    let mut i = 0;
-    while i < buffer.len() {
-        buffer[i] = v;
-        i += 1;
-    }
 }
 
 fn slot_byte(counts: &[u8; 32], i: usize) -> u8

@@ -17,7 +17,7 @@ ghost use Rattle.model.specs.Commands.{isKind, bodySize, headAt, rowAt, gapAt, 
 fn is_kind(k: u8) -> bool
     ensures { λ r. ⌜ r ≡ isKind k ⌝ }
 {
-    1 <= k && k <= 6
+    1 <= k && k <= 8
 }
 
 fn body_length(k: u8) -> usize
@@ -29,6 +29,8 @@ fn body_length(k: u8) -> usize
         3 => 4,
         5 => 1,
         6 => 5,
+        7 => 1,
+        8 => 1,
         _ => 0,
     }
 }
@@ -73,7 +75,7 @@ fn gap_at(s: &[u8], b: usize) -> GapRule
     }
 }
 
-// The command of kind k, 1 to 6.
+// The command of kind k, 1 to 8.
 fn command_at(s: &[u8], k: u8, b: usize) -> Command
     requires { ⌜ isKind k ≡ true ⌝ }
     requires { ⌜ b + bodySize k ≤ length (now s) ⌝ }
@@ -85,7 +87,9 @@ fn command_at(s: &[u8], k: u8, b: usize) -> Command
         3 => Command::Row(row_at(s, b)),
         4 => Command::Post,
         5 => Command::Retract(s[b]),
-        _ => Command::Gap(gap_at(s, b)),
+        6 => Command::Gap(gap_at(s, b)),
+        7 => Command::Keep(s[b]),
+        _ => Command::Back(s[b]),
     }
 }
 

@@ -4,7 +4,7 @@ use mathlib.Core.List.{List}
 use Prim.Native.Nat.{ℕ}
 use Rattle.layout.specs.Marks.{markedRows, markedKillers, markedSlots}
 
-pub record BroughtBack (marks : List ℕ) (name : ℕ) (rows killers slots : List ℕ) : Type 0 where
+pub record PartsBack (marks : List ℕ) (name : ℕ) (rows killers slots : List ℕ) : Type 0 where
   pub rows-are : rows ≡ markedRows marks name
   pub killers-are : killers ≡ markedKillers marks name
   pub slots-are : slots ≡ markedSlots marks name

@@ -1,4 +1,4 @@
 -- The theorems over the definitions.
 pub mod Copy
-pub mod Back
 pub mod Changes
+pub mod Kinds

@@ -8,8 +8,8 @@ ghost use mathlib.Core.Path.{_≡_};
 ghost use Prim.Native.Nat.{_<_};
 ghost use lib.Dec.{eqb, ltb};
 ghost use lib.ListN.{length};
-ghost use Rattle.layout.specs.Sizes.{slotsLength};
-ghost use Rattle.layout.specs.Marks.{marksLength, markedSlots};
+ghost use Rattle.layout.specs.Sizes.{slotsLength, marksLength};
+ghost use Rattle.layout.specs.Marks.{markedSlots};
 ghost use Rattle.model.specs.Report.{struckBetween};
 ghost use Rattle.command_mark.specs.Changes.{Between};
 

@@ -1,6 +1,8 @@
-// The bytes of the marks (order 4): a board's buffers kept under a name, brought back from there, and the slots that differ. No command uses it yet.
-// Proved: which bytes are written, and that no others are; what is counted. Assumed: nothing.
+// Kinds 7 and 8, mark and back: a board is kept under a name, and brought back from there.
+// Proved: which bytes are written, and that no others are; what is counted; and that what both kinds answer and leave is what specs/Promise.antt of the crate model
+// says. Assumed: nothing.
 mod copy; // bytes over bytes
-pub mod keep; // the buffers into a mark
-pub mod back; // and out of it
-pub mod changes; // the slots that bringing it back strikes and reopens
+mod check; // the refusals
+pub mod keep; // kind 7
+pub mod changes; // the slots that bringing a board back strikes and reopens
+pub mod back; // kind 8

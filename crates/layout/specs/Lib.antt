@@ -4,6 +4,7 @@ pub mod Places
 pub mod Bounds
 pub mod Value
 pub mod Summary
-pub mod Memory
 pub mod Marks
+pub mod Names
+pub mod Memory
 pub mod Laws

@@ -1,22 +1,9 @@
--- THE MARKS (order 4): two boards that are kept under the names 0 and 1. Their buffers lie in one more that the host lends, one mark behind the other; of each the rows,
--- the killers, then the slots. Their calls and rule heads are held by value. No entry is lent them yet.
-use mathlib.Core.Bool.{cond}
+-- THE MARKS' BYTES (SCOPE 2.10): two boards are kept under the names 0 and 1, and their buffers lie in one more that the host lends, one mark behind the other; of each
+-- the rows, the killers, then the slots.
 use mathlib.Core.List.{List, _++_}
 use Prim.Native.Nat.{ℕ, _+_, _*_}
 use lib.ListN.{length, take, drop}
-use lib.Dec.{eqb}
-use Rattle.layout.specs.declared.value.Heads.{Heads}
-use Rattle.layout.specs.declared.marks.Mark.{Mark}
-use Rattle.layout.specs.declared.marks.Marks.{Marks}
-use Rattle.layout.specs.Value.{freshHeads}
-use Rattle.layout.specs.Sizes.{killersLength, rowsLength, slotsLength}
-
--- the bytes of one mark, and of both
-abbrev pub markLength : ℕ
-markLength = 21504
-
-abbrev pub marksLength : ℕ
-marksLength = 43008
+use Rattle.layout.specs.Sizes.{killersLength, rowsLength, slotsLength, markLength}
 
 -- where the three parts of a mark begin
 abbrev pub markStart : ℕ → ℕ
@@ -49,20 +36,3 @@ markedSlots marks name = partFrom marks (slotsStart name) slotsLength
 abbrev pub withMark : List ℕ → ℕ → List ℕ → List ℕ → List ℕ → List ℕ
 withMark marks name rows killers slots =
     withPart (withPart (withPart marks (markStart name) rows) (killersStart name) killers) (slotsStart name) slots
-
--- BY VALUE: a name that keeps nothing, one that keeps a board of these heads, and both names before the first command
-abbrev pub noMark : Mark
-noMark = record { kept = 0; heads = freshHeads }
-
-abbrev pub markOf : Heads → Mark
-markOf heads = record { kept = 1; heads = heads }
-
-abbrev pub noMarks : Marks
-noMarks = record { first = noMark; second = noMark }
-
--- the mark under a name, and another one there
-abbrev pub markUnder : Marks → ℕ → Mark
-markUnder marks name = cond (eqb name 0) (marks .first) (marks .second)
-
-abbrev pub withMarkUnder : Marks → ℕ → Mark → Marks
-withMarkUnder marks name mark = cond (eqb name 0) (record { first = mark; second = marks .second }) (record { first = marks .first; second = mark })

@@ -1,4 +1,4 @@
--- A STATE OF THE MEMORY: the value and the three buffers; with a summary table beside them it is the whole that commands write. The fresh ones.
+-- A STATE OF THE MEMORY: the value and the three buffers of the board; with the marks and a summary table beside them it is the whole that commands write. The fresh ones.
 use mathlib.Core.Path.{_≡_}
 use mathlib.Core.List.{List}
 use Prim.Native.Nat.{ℕ, _<_}
@@ -6,6 +6,7 @@ use denote.Ref.{RefT, now}
 use lib.ListN.{length, replicate, getD}
 use Rattle.layout.specs.declared.value.Value.{Value}
 use Rattle.layout.specs.Value.{freshValue}
+use Rattle.layout.specs.Names.{noNames}
 use Rattle.layout.specs.declared.summary.Summary.{Summary}
 use Rattle.layout.specs.Summary.{noRecords}
 use Rattle.layout.specs.Sizes.{Lent, CommandLent, killersLength, rowsLength, slotsLength}
@@ -32,21 +33,37 @@ lentOf s = record { rows = length (s .rows); killers = length (s .killers); slot
 abbrev pub freshState : State
 freshState = record { value = freshValue; rows = replicate rowsLength 255; killers = replicate killersLength 255; slots = replicate slotsLength 254 }
 
--- THE WHOLE that a command is lent and writes: a state, and the summary table
-pub record Whole : Type 0 where
+-- A STATE WITH THE MARKS: what is held of the names, and the marks' bytes
+pub record MarkedState : Type 0 where
   pub state : State
+  pub names : List ℕ
+  pub marks : List ℕ
+
+abbrev pub markedOf : State → List ℕ → List ℕ → MarkedState
+markedOf s names marks = record { state = s; names = names; marks = marks }
+
+-- the same with the names and the buffers that a function is lent
+abbrev pub markedMemory : Value → RefT (List ℕ) → RefT (List ℕ) → RefT (List ℕ) → RefT (List ℕ) → RefT (List ℕ) → MarkedState
+markedMemory value names rows killers slots marks = markedOf (memory value rows killers slots) (now names) (now marks)
+
+-- THE WHOLE that a command is lent and writes: a state with the marks, and the summary table
+pub record Whole : Type 0 where
+  pub marked : MarkedState
   pub table : List Summary
 
-abbrev pub wholeOf : State → List Summary → Whole
-wholeOf s table = record { state = s; table = table }
+abbrev pub wholeOf : MarkedState → List Summary → Whole
+wholeOf m table = record { marked = m; table = table }
 
 -- the lengths of all of it
 abbrev pub lentWith : Whole → CommandLent
-lentWith w = record { buffers = lentOf (w .state); table = length (w .table) }
+lentWith w = record { buffers = lentOf (w .marked .state); marks = length (w .marked .marks); table = length (w .table) }
 
--- before the first command the table holds zeros (SCOPE 2.9)
-abbrev pub freshWhole : Whole
-freshWhole = wholeOf freshState noRecords
+-- before the first command the table holds zeros (SCOPE 2.9), and nothing is kept; the marks' bytes are any (2.10)
+abbrev pub freshMarkedState : List ℕ → MarkedState
+freshMarkedState marks = markedOf freshState noNames marks
+
+abbrev pub freshWhole : List ℕ → Whole
+freshWhole marks = wholeOf (freshMarkedState marks) noRecords
 
 -- n bytes, each of them v
 pub record Filled (n v : ℕ) (l : List ℕ) : Type 0 where

@@ -13,6 +13,7 @@ pub mod Heads
 pub mod Answers
 pub mod Promised
 pub mod Lists
+pub mod Again
 pub mod Samples
 pub mod Counts
 pub mod Reports

@@ -16,7 +16,7 @@ use Rattle.model.specs.Board.{Rule, Board, callAt, slotAt, GoodRule, Sha
 use Rattle.model.specs.Tests.{some?, every?, isNone}
 use Rattle.model.specs.Commands.{scopeOf, slotsOf, readAt}
 use Rattle.model.specs.Gaps.{badForm?, badGap?, ruleOfGap}
-use Rattle.layout.specs.Sizes.{CommandLent, badLent?, badTable?, killersLength, rowsLength, slotsLength, recordsLength}
+use Rattle.layout.specs.Sizes.{CommandLent, badBuffers?, badTable?, killersLength, rowsLength, slotsLength, marksLength, recordsLength}
 use Rattle.model.specs.Refusals.{firstOf}
 use Rattle.model.specs.Numbers as refused
 
@@ -25,8 +25,7 @@ pub record NumberedRule : Type 0 where
   pub number : ℕ
   pub rule : Rule
 
--- slot counts and rules by number, which are a board, a draft, and the boards that are kept under the names 0 and 1 (order 4; no command keeps one yet); `fresh`, below,
--- has none of them
+-- slot counts and rules by number, which are a board, a draft, and the boards that are kept under the names 0 and 1; `fresh`, below, has none of them
 pub record Ledger : Type 0 where
   pub board : Board
   pub draft : Option NumberedRule
@@ -41,9 +40,13 @@ noneKept = none ∷ none ∷ []
 abbrev pub fresh : Ledger
 fresh = record { board = bare []; draft = none; marks = noneKept }
 
--- the board that is kept under a name
+-- the board that is kept under a name; `keptOr` has one without calls where none is
 abbrev pub keptUnder : Ledger → ℕ → Option Board
 keptUnder L name = getD (L .marks) name none
+
+abbrev pub keptOr : Option Board → Board
+keptOr none = bare []
+keptOr (some B) = B
 
 -- the board's shape, and the draft's: a number 0 to 63 and a rule that the board could have. A kept board has the calls and counts of the board
 pub record LedgerShape (L : Ledger) : Type 0 where
@@ -59,7 +62,7 @@ draftOr (some d) = d
 
 -- 1 and 22: of what is lent with a command
 abbrev pub lentConditions : CommandLent → List (Bool × ℕ)
-lentConditions lent = (badLent? (lent .buffers), refused.bufferLength) ∷ (badTable? lent, refused.tableLength) ∷ []
+lentConditions lent = (badBuffers? (lent .buffers) (lent .marks), refused.bufferLength) ∷ (badTable? lent, refused.tableLength) ∷ []
 
 -- 5: there is no first call, a count is above 32, or after a 0 comes another number
 abbrev pub badCounts? : List ℕ → Bool
@@ -80,6 +83,10 @@ badNumber? n = ltb 63 n
 
 abbrev pub notInForce? : Ledger → ℕ → Bool
 notInForce? L n = isNone (getD (L .board .rules) n none)
+
+-- 26: no mark can have the name
+abbrev pub badName? : ℕ → Bool
+badName? name = ltb 1 name
 
 -- EACH KIND'S OWN CONDITIONS, in the order of SCOPE 4.3, for whoever enters it: `reserved` has what is checked right behind 7 of a rule's number, for numbers that
 -- are another's. ns are the 32 counts that stand beside a kind 1
@@ -116,6 +123,9 @@ conditionsFor reserved L (kind.Gap f) ns =
     ∷ (badGap? (f .form) (f .gap), refused.badGap)
     ∷ (ltb 64 (length (ruleOfGap counts f .rows)), refused.tooManyPairs)
     ∷ []))
+conditionsFor reserved L (kind.Keep name) ns = (noBoard? L, refused.noBoard) ∷ (badName? name, refused.badName) ∷ []
+conditionsFor reserved L (kind.Back name) ns =
+    (noBoard? L, refused.noBoard) ∷ (badName? name, refused.badName) ∷ (isNone (keptUnder L name), refused.nothingKept) ∷ []
 
 -- the board itself reserves no number
 abbrev pub noneReserved : ℕ → List (Bool × ℕ)
@@ -157,7 +167,8 @@ abbrev pub withRule : Board → ℕ → Option Rule → Board
 withRule B p r = record { counts = B .counts; rules = set (B .rules) p r }
 
 -- WHAT AN ACCEPTED COMMAND DOES (SCOPE 6.7): kind 1 leaves nothing but its counts, kind 2 begins a draft, kind 3 lengthens it by a row, kind 4 makes it a rule
--- in force, kind 5 takes such a rule away; kind 6 begins a draft with all the rows of a gap rule
+-- in force, kind 5 takes such a rule away; kind 6 begins a draft with all the rows of a gap rule; kind 7 keeps the board under a name, and kind 8 makes the one that is
+-- kept there the board, without a draft, and it stays kept
 abbrev pub effect : Ledger → Command → List ℕ → Ledger
 effect L kind.Board ns = record { board = bare (upToZero ns); draft = none; marks = noneKept }
 effect L (kind.Head h) ns =
@@ -173,6 +184,8 @@ effect L (kind.Row w) ns =
 effect L kind.Post ns = let d = draftOr (L .draft) in record { board = withRule (L .board) (d .number) (some (d .rule)); draft = none; marks = L .marks }
 effect L (kind.Retract n) ns = record { board = withRule (L .board) n none; draft = L .draft; marks = L .marks }
 effect L (kind.Gap f) ns = record { board = L .board; draft = some (record { number = f .number; rule = ruleOfGap (L .board .counts) f }); marks = L .marks }
+effect L (kind.Keep name) ns = record { board = L .board; draft = L .draft; marks = set (L .marks) name (some (L .board)) }
+effect L (kind.Back name) ns = record { board = keptOr (keptUnder L name); draft = none; marks = L .marks }
 
 abbrev pub readEffect : Ledger → Read → List ℕ → Ledger
 readEffect L (found.Command c) ns = effect L c ns
@@ -211,7 +224,7 @@ NoneRefused L (m ∷ ms) = (refusal L (m .lent) (m .bytes) ≡ 0) × NoneRefused
 
 -- the lengths of what is lent, right
 abbrev pub lengths : CommandLent
-lengths = record { buffers = record { rows = rowsLength; killers = killersLength; slots = slotsLength }; table = recordsLength }
+lengths = record { buffers = record { rows = rowsLength; killers = killersLength; slots = slotsLength }; marks = marksLength; table = recordsLength }
 
 abbrev pub member : List ℕ → Member
 member bytes = record { bytes = bytes; lent = lengths }

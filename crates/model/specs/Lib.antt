@@ -17,6 +17,7 @@ pub mod Promise
 pub mod Questions
 pub mod Sheet
 pub mod Lists
+pub mod Again
 pub mod Samples
 pub mod WrongBoards
 pub mod Laws

@@ -12,7 +12,8 @@ use Rattle.model.specs.Records.{Open, Struck, Caused, KillerIn, NoRing, 
 use Rattle.model.specs.Ledger.{Member}
 use Rattle.model.specs.Promise.{Promise}
 use Rattle.layout.specs.Places.{causeOf, killerOf}
-use Rattle.layout.specs.Memory.{State, Whole, wholeOf, stateOf, lentWith}
+use Rattle.layout.specs.Memory.{State, MarkedState, Whole, stateOf, markedOf, wholeOf, lentWith, freshWhole}
+use Rattle.layout.specs.Sizes.{marksLength}
 
 -- A LIST OF MEMBERS TAKES ONE STATE TO ANOTHER, step by step, over any states, members and steps
 pub data Runs (S M : Type 0) (Step : M → S → S → Type 0) : S → List M → S → Type 0 where
@@ -29,24 +30,36 @@ standingState own handed left =
     stateOf (left .value) (standing (own .rows) (handed .rows) (left .rows)) (standing (own .killers) (handed .killers) (left .killers))
     (standing (own .slots) (handed .slots) (left .slots))
 
+-- and with the marks: the names that the command left stand
+abbrev pub standingMarked : MarkedState → MarkedState → MarkedState → MarkedState
+standingMarked own handed left =
+    markedOf (standingState (own .state) (handed .state) (left .state)) (left .names) (standing (own .marks) (handed .marks) (left .marks))
+
 -- what is handed of a buffer or a table: the one that stands, if its length is right; one of another length may hold anything
 abbrev pub Handed : {A : Type 0} → List A → List A → Type 0
 Handed own handed = length handed ≡ length own → handed ≡ own
 
--- ONE COMMAND OF A LIST IS ENTERED, by the entry's promise (SCOPE 6.2, 6.3). It is handed the value as it stands, and each buffer and the table too if its length is
--- right; a member says which lengths are lent
+-- ONE COMMAND OF A LIST IS ENTERED, by the entry's promise (SCOPE 6.2, 6.3). It is handed the value and the names as they stand, and each buffer and the table too if its
+-- length is right; a member says which lengths are lent
 pub record Entered (m : Member) (s s′ : Whole) : Type 0 where
   pub handed : Whole
   pub left : Whole
   pub given : Answer
-  pub value : handed .state .value ≡ s .state .value
+  pub value : handed .marked .state .value ≡ s .marked .state .value
+  pub names : handed .marked .names ≡ s .marked .names
   pub lengths : lentWith handed ≡ m .lent
-  pub rows : Handed (s .state .rows) (handed .state .rows)
-  pub killers : Handed (s .state .killers) (handed .state .killers)
-  pub slots : Handed (s .state .slots) (handed .state .slots)
+  pub rows : Handed (s .marked .state .rows) (handed .marked .state .rows)
+  pub killers : Handed (s .marked .state .killers) (handed .marked .state .killers)
+  pub slots : Handed (s .marked .state .slots) (handed .marked .state .slots)
+  pub marks : Handed (s .marked .marks) (handed .marked .marks)
   pub table : Handed (s .table) (handed .table)
   pub promise : Promise handed (m .bytes) given left
-  pub stands : s′ ≡ wholeOf (standingState (s .state) (handed .state) (left .state)) (standing (s .table) (handed .table) (left .table))
+  pub stands : s′ ≡ wholeOf (standingMarked (s .marked) (handed .marked) (left .marked)) (standing (s .table) (handed .table) (left .table))
+
+-- WHAT STANDS AFTER THE COMMANDS OF A LIST, entered one after another on a fresh board (SCOPE 6.1), beside marks' bytes that held anything at first (2.10)
+pub record After (first : List ℕ) (ms : List Member) (s : Whole) : Type 0 where
+  pub size : length first ≡ marksLength
+  pub ran : Runs Whole Member Entered (freshWhole first) ms s
 
 -- WHAT DEMAND 3 SAYS OF ONE LIST, over the ledger's board and the bytes after it
 pub record Demand3 (B : Board) (s : State) : Type 0 where

@@ -100,3 +100,11 @@ badGap = 24
 -- over 64 pairs of slots fit
 abbrev pub tooManyPairs : ℕ
 tooManyPairs = 25
+
+-- a mark's name is over 1
+abbrev pub badName : ℕ
+badName = 26
+
+-- nothing is kept under the name
+abbrev pub nothingKept : ℕ
+nothingKept = 27

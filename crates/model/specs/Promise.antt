@@ -1,5 +1,5 @@
--- WHAT THE COMMAND ENTRY PROMISES (SCOPE 6.10, 10.1), over the state and the table before, the command's bytes, the answer, and the state and the table after. The
--- lengths lent are those before. The entry's `ensures` cites the last record, and nothing else.
+-- WHAT THE COMMAND ENTRY PROMISES (SCOPE 6.10, 10.1), over the state, the marks and the table before, the command's bytes, the answer, and the three after. The lengths
+-- lent are those before. The entry's `ensures` cites the last record, and nothing else.
 use mathlib.Core.Path.{_≡_}
 use mathlib.Core.List.{List, [], _∷_}
 use Prim.Native.Nat.{ℕ, zero, suc}
@@ -16,8 +16,9 @@ use Rattle.model.specs.Commands.{readAt}
 use Rattle.model.specs.Ledger.{Ledger, LedgerShape, fresh, earlyConditions, kindConditions, refusal, effect, obey, step}
 use Rattle.model.specs.Report.{Reports}
 use Rattle.model.specs.Representation.{Represents}
+use Rattle.model.specs.Marks.{RepresentsMarked, LeavesMarks, LeavesMarksOf}
 use Rattle.model.specs.Summary.{Current}
-use Rattle.layout.specs.Memory.{State, Whole, lentWith}
+use Rattle.layout.specs.Memory.{State, MarkedState, Whole, lentWith}
 use Rattle.layout.specs.Sizes.{CommandLent}
 use Rattle.model.specs.Refusals.{firstOf}
 
@@ -55,23 +56,36 @@ ReportsOf (found.Command c) before after r = Reports c before after r
 ReportsOf (found.Refused k n) before after r = ⊥
 ReportsOf found.End before after r = ⊥
 
--- A DECISION, by the number of the first condition that holds, or 0: the answer's number and values, the report where it is 0, and whose the state after is
-pub record Decided (n : ℕ) (Reported : Report → Type 0) (L : Ledger) (given : Answer) (after : State) : Type 0 where
+-- A DECISION, by the number of the first condition that holds, or 0: the answer's number and values, the report where it is 0, and what is said of the memory after
+pub record Decided (n : ℕ) (Reported : Report → Type 0) (Left : Type 0) (given : Answer) : Type 0 where
   pub report : Report
   pub number : numberOf given ≡ n
   pub values : valuesOf given ≡ valuesAt n (reportValues report)
   pub reported : n ≡ 0 → Reported report
-  pub represents : Represents L after
+  pub represents : Left
 
--- on a state that is the ledger L's: the first condition of the whole table decides, and the state after is the stepped ledger's
-abbrev pub Answered : CommandLent → Ledger → State → List ℕ → Answer → State → Type 0
+-- on a state with marks that is the ledger L's: the first condition of the whole table decides, and what is left is the stepped ledger's
+abbrev pub Answered : CommandLent → Ledger → MarkedState → List ℕ → Answer → MarkedState → Type 0
 Answered lent L before bytes given after =
-    Decided (refusal L lent bytes) (ReportsOf (readAt bytes 0 .read) before after) (step L lent bytes) given after
+    Decided (refusal L lent bytes) (ReportsOf (readAt bytes 0 .read) (before .state) (after .state)) (RepresentsMarked (step L lent bytes) after) given
 
 -- the same of a command that has been read, with the kind's own conditions: what the functions under the entry promise
+abbrev pub ObeyedMarked : Ledger → MarkedState → Command → List ℕ → Answer → MarkedState → Type 0
+ObeyedMarked L before c ns given after =
+    let n = firstOf (kindConditions L c ns) in
+    Decided n (Reports c (before .state) (after .state)) (RepresentsMarked (obey n L (found.Command c) ns) after) given
+
+pub record MarkedPromise (before : MarkedState) (c : Command) (ns : List ℕ) (given : Answer) (after : MarkedState) : Type 0 where
+  pub refused : (n : ℕ) → given ≡ answer.Refused n → after ≡ before
+  pub never-zero : NeverZero given
+  pub marks : numberOf given ≡ 0 → LeavesMarks c before after
+  pub obeyed : (L : Ledger) → LedgerShape L → RepresentsMarked L before → ObeyedMarked L before c ns given after
+
+-- and of the state alone: what the functions of the kinds promise that the marks have no part in
 abbrev pub Obeyed : Ledger → State → Command → List ℕ → Answer → State → Type 0
 Obeyed L before c ns given after =
-    Decided (firstOf (kindConditions L c ns)) (Reports c before after) (obey (firstOf (kindConditions L c ns)) L (found.Command c) ns) given after
+    let n = firstOf (kindConditions L c ns) in
+    Decided n (Reports c before after) (Represents (obey n L (found.Command c) ns) after) given
 
 pub record KindPromise (before : State) (c : Command) (ns : List ℕ) (given : Answer) (after : State) : Type 0 where
   pub refused : (n : ℕ) → given ≡ answer.Refused n → after ≡ before
@@ -84,23 +98,25 @@ pub record BoardMade (ns : List ℕ) (given : Answer) (after : State) : Type 0 w
   pub values : valuesOf given ≡ valuesAt (firstOf (kindConditions fresh kind.Board ns)) (0 ∷ 0 ∷ 0 ∷ [])
   pub represents : firstOf (kindConditions fresh kind.Board ns) ≡ 0 → Represents (effect fresh kind.Board ns) after
 
--- OF VALUE AND BUFFERS, with all lengths that are lent
-pub record MemoryPromise (lent : CommandLent) (before : State) (bytes : List ℕ) (given : Answer) (after : State) : Type 0 where
+-- OF VALUE, BUFFERS AND MARKS, with all lengths that are lent
+pub record MemoryPromise (lent : CommandLent) (before : MarkedState) (bytes : List ℕ) (given : Answer) (after : MarkedState) : Type 0 where
   -- WHATEVER THE MEMORY HOLDS (SCOPE 2.7): 1, 22, 3 and 4 are given on their conditions
   pub early : (n : ℕ) → firstOf (earlyConditions lent bytes) ≡ suc n → numberOf given ≡ suc n
-  -- a refusal leaves value and buffers as they were (SCOPE 4.2), and has a number
+  -- a refusal leaves value, buffers and marks as they were (SCOPE 4.2), and has a number
   pub refused : (n : ℕ) → given ≡ answer.Refused n → after ≡ before
   pub never-zero : NeverZero given
   -- a kind 1 does the same on every memory
   pub made : firstOf (earlyConditions lent bytes) ≡ 0 → readAt bytes 0 .read ≡ found.Command kind.Board
-      → BoardMade (readAt bytes 0 .counts) given after
-  -- WHERE THE STATE IS A LEDGER'S
-  pub answered : (L : Ledger) → LedgerShape L → Represents L before → Answered lent L before bytes given after
+      → BoardMade (readAt bytes 0 .counts) given (after .state)
+  -- and every kind leaves of the marks what it has to; so kinds 7 and 8 do the same on every memory (SCOPE 3.14, 3.15)
+  pub marks : numberOf given ≡ 0 → LeavesMarksOf (readAt bytes 0 .read) before after
+  -- WHERE THE STATE WITH ITS MARKS IS A LEDGER'S
+  pub answered : (L : Ledger) → LedgerShape L → RepresentsMarked L before → Answered lent L before bytes given after
 
--- THE ENTRY'S: of value, buffers and table
+-- THE ENTRY'S: of value, buffers, marks and table
 pub record Promise (before : Whole) (bytes : List ℕ) (given : Answer) (after : Whole) : Type 0 where
-  pub state : MemoryPromise (lentWith before) (before .state) bytes given (after .state)
+  pub memory : MemoryPromise (lentWith before) (before .marked) bytes given (after .marked)
   -- refused, the table is as it was (SCOPE 4.2)
   pub table-kept : (n : ℕ) → given ≡ answer.Refused n → after .table ≡ before .table
   -- accepted, it is current, whatever it held (SCOPE 2.9): on the board of every ledger that the state after is of
-  pub current : numberOf given ≡ 0 → (L : Ledger) → LedgerShape L → Represents L (after .state) → Current (L .board) (after .table)
+  pub current : numberOf given ≡ 0 → (L : Ledger) → LedgerShape L → Represents L (after .marked .state) → Current (L .board) (after .table)

@@ -2,7 +2,7 @@
 use mathlib.Core.Path.{_≡_}
 use mathlib.Core.Bool.{Bool, true, false, not, _&&_, cond}
 use mathlib.Core.List.{List}
-use Prim.Native.Nat.{ℕ, _/_, _%_, _≤_}
+use Prim.Native.Nat.{ℕ, _+_, _/_, _%_, _≤_}
 use lib.ListN.{getD}
 use lib.Dec.{eqb, ltb}
 use Rattle.model.specs.declared.answer.Report.{Report}
@@ -45,7 +45,7 @@ struckOf B left left′ = slotCount λ c s. in? left c s && closed? B left′ c 
 abbrev pub reopenedOf : Board → List (List ℕ) → List (List ℕ) → ℕ
 reopenedOf B left left′ = slotCount λ c s. closed? B left c s && in? left′ c s
 
--- the kinds that change slots of the board that stands: put and lift (SCOPE 3.8)
+-- the kinds that change slots of the board that stands: put, lift and back (SCOPE 3.8)
 abbrev pub changesSlots? : Command → Bool
 changesSlots? kind.Board = false
 changesSlots? (kind.Head h) = false
@@ -53,6 +53,8 @@ changesSlots? (kind.Row w) = false
 changesSlots? kind.Post = true
 changesSlots? (kind.Retract n) = true
 changesSlots? (kind.Gap f) = false
+changesSlots? (kind.Keep n) = false
+changesSlots? (kind.Back n) = true
 
 -- S and R of an accepted command, from the boards before and after
 abbrev pub struckBy : Command → Board → Board → ℕ
@@ -72,7 +74,7 @@ pub record RetractOwn (before after : State) (r : Report) : Type 0 where
   pub least : r .reopened ≤ r .touched
   pub most : r .touched ≤ struckIn (before .slots)
 
--- what a kind says of its own (SCOPE 3.8 to 3.10): kinds 1, 2, 3 and 6 touch nothing
+-- what a kind says of its own (SCOPE 3.8 to 3.10, 3.15): kinds 1, 2, 3, 6 and 7 touch nothing, and kind 8 touches what it strikes and what it reopens
 abbrev pub ReportsOwn : Command → State → State → Report → Type 0
 ReportsOwn kind.Board before after r = r .touched ≡ 0
 ReportsOwn (kind.Head h) before after r = r .touched ≡ 0
@@ -80,8 +82,10 @@ ReportsOwn (kind.Row w) before after r = r .touched ≡ 0
 ReportsOwn kind.Post before after r = PostOwn before after r
 ReportsOwn (kind.Retract n) before after r = RetractOwn before after r
 ReportsOwn (kind.Gap f) before after r = r .touched ≡ 0
+ReportsOwn (kind.Keep n) before after r = r .touched ≡ 0
+ReportsOwn (kind.Back n) before after r = r .touched ≡ r .struck + r .reopened
 
--- THE REPORT OF A COMMAND, from the states before and after: S and R count the slots that a put or a lift changed (SCOPE 3.7)
+-- THE REPORT OF A COMMAND, from the states before and after: S and R count the slots that a put, a lift or a back changed (SCOPE 3.7)
 pub record Reports (c : Command) (before after : State) (r : Report) : Type 0 where
   pub struck : r .struck ≡ cond (changesSlots? c) (struckBetween (before .slots) (after .slots)) 0
   pub reopened : r .reopened ≡ cond (changesSlots? c) (reopenedBetween (before .slots) (after .slots)) 0

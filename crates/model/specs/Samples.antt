@@ -1,5 +1,5 @@
--- THE STARRED SAMPLE BOARDS P1 TO P12 AND G1 TO G7 (SCOPE 8.1 to 8.12, 8.16 to 8.22), as commands' bytes, with what is to come of the last command of each, and P4's
--- sheet.
+-- THE STARRED SAMPLE BOARDS P1 TO P12, G1 TO G7 AND M1 TO M8 (SCOPE 8.1 to 8.12, 8.16 to 8.30), as commands' bytes, with what is to come of the last command of each,
+-- and P4's sheet.
 use mathlib.Core.List.{List, [], _∷_, _++_, map}
 use mathlib.Core.Logic.{_↔_}
 use mathlib.Core.Option.{Option, none, some}
@@ -40,6 +40,12 @@ retractBytes number = 5 ∷ number ∷ []
 
 abbrev pub gapBytes : GapRule → List ℕ
 gapBytes f = 6 ∷ f .form ∷ f .number ∷ f .first ∷ f .second ∷ f .gap ∷ []
+
+abbrev pub keepBytes : ℕ → List ℕ
+keepBytes name = 7 ∷ name ∷ []
+
+abbrev pub backBytes : ℕ → List ℕ
+backBytes name = 8 ∷ name ∷ []
 
 abbrev pub ledgerOf : List (List ℕ) → Ledger
 ledgerOf commands = run fresh (map member commands)
@@ -240,13 +246,44 @@ gapSamples =
     ∷ gapAlone 2 2 2 32 24
     ∷ []
 
+-- M1 TO M8, MARKED BOARDS (SCOPE 8.23 to 8.30): P1's board is kept under 0, rule 0 lifted, and rule 1 of P2 put. Then commands come of which the last is looked at
+abbrev pub marked : List (List ℕ) → List ℕ → ℕ → ℕ → ℕ → List (List ℕ) → Sample
+marked then last refusal struck reopened left =
+    record {
+      before = p1Before
+          ++ (postBytes ∷ keepBytes 0 ∷ retractBytes 0 ∷ headBytes 1 (1 ∷ 2 ∷ []) ∷ rowBytes (1 ∷ 0 ∷ []) ∷ rowBytes (0 ∷ 1 ∷ []) ∷ postBytes ∷ []) ++ then;
+      last = last;
+      outcome = record { refused = refusal; struck = struck; reopened = reopened; left = left; sheet = none };
+    }
+
+-- what is open of P1, and of rule 1 alone
+abbrev pub openP1 : List (List ℕ)
+openP1 = (0 ∷ 1 ∷ []) ∷ (1 ∷ 2 ∷ []) ∷ (0 ∷ 1 ∷ []) ∷ []
+
+abbrev pub openAlone : List (List ℕ)
+openAlone = (0 ∷ 1 ∷ 2 ∷ []) ∷ (0 ∷ 1 ∷ []) ∷ (0 ∷ 1 ∷ []) ∷ []
+
+-- back with two slots struck and one reopened; back again, from the same mark; a name that keeps nothing, and one that no mark has; a kind 1 forgets; a back leaves no
+-- draft, and a mark leaves it; and a mark over another
+abbrev pub markSamples : List Sample
+markSamples =
+    marked [] (backBytes 0) 0 2 1 openP1
+    ∷ marked (backBytes 0 ∷ retractBytes 0 ∷ []) (backBytes 0) 0 2 0 openP1
+    ∷ marked [] (backBytes 1) 27 0 0 openAlone
+    ∷ marked [] (keepBytes 2) 26 0 0 openAlone
+    ∷ marked (boardBytes (2 ∷ []) ∷ []) (backBytes 0) 27 0 0 ((0 ∷ 1 ∷ []) ∷ [])
+    ∷ marked (headBytes 2 (0 ∷ []) ∷ backBytes 0 ∷ []) postBytes 12 0 0 openP1
+    ∷ marked (headBytes 2 (0 ∷ []) ∷ keepBytes 1 ∷ []) postBytes 0 3 0 ([] ∷ (0 ∷ 1 ∷ []) ∷ (0 ∷ 1 ∷ []) ∷ [])
+    ∷ marked (keepBytes 0 ∷ retractBytes 1 ∷ []) (backBytes 0) 0 1 0 openAlone
+    ∷ []
+
 -- THE LIST
 abbrev pub samples : List Sample
-samples = p1 ∷ p2 ∷ p3 ∷ p4Post ∷ p4Retract ∷ p4Again ∷ p5 ∷ p6 ∷ p7 ∷ p8 ∷ p9 ∷ p10 ∷ p11 ∷ p12 ∷ gapSamples
+samples = p1 ∷ p2 ∷ p3 ∷ p4Post ∷ p4Retract ∷ p4Again ∷ p5 ∷ p6 ∷ p7 ∷ p8 ∷ p9 ∷ p10 ∷ p11 ∷ p12 ∷ gapSamples ++ markSamples
 
--- WHAT REFUSES BYTES FOR THEIR FORM: no byte, a kind past 6, bodies cut short, bytes left over
+-- WHAT REFUSES BYTES FOR THEIR FORM: no byte, a kind that there is not, bodies cut short, bytes left over
 abbrev pub forms : List (List ℕ)
-forms = [] ∷ (7 ∷ []) ∷ (5 ∷ []) ∷ (6 ∷ 1 ∷ 7 ∷ 0 ∷ 1 ∷ []) ∷ take 32 (boardBytes (1 ∷ [])) ∷ (4 ∷ 0 ∷ []) ∷ []
+forms = [] ∷ (10 ∷ []) ∷ (5 ∷ []) ∷ (7 ∷ []) ∷ (8 ∷ 0 ∷ 0 ∷ []) ∷ (6 ∷ 1 ∷ 7 ∷ 0 ∷ 1 ∷ []) ∷ take 32 (boardBytes (1 ∷ [])) ∷ (4 ∷ 0 ∷ []) ∷ []
 
 abbrev pub formNumbers : List ℕ
-formNumbers = 3 ∷ 3 ∷ 4 ∷ 4 ∷ 4 ∷ 4 ∷ []
+formNumbers = 3 ∷ 3 ∷ 4 ∷ 4 ∷ 4 ∷ 4 ∷ 4 ∷ 4 ∷ []

@@ -38,6 +38,10 @@ pub enum Command {
     // lift, kind 5: the rule of this number
     Retract(u8),
     Gap(GapRule),
+    // mark, kind 7: the board is kept under this name
+    Keep(u8),
+    // back, kind 8: and brought back from there
+    Back(u8),
 }
 
 // What stands at a place of a file.

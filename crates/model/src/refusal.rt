@@ -86,3 +86,9 @@ pub const BAD_GAP: u8 = 24;
 
 // over 64 pairs of slots fit
 pub const TOO_MANY_PAIRS: u8 = 25;
+
+// a mark's name is over 1
+pub const BAD_NAME: u8 = 26;
+
+// nothing is kept under the name
+pub const NOTHING_KEPT: u8 = 27;

@@ -6,11 +6,11 @@ use Rattle.model.specs.declared.command.Read.{Read}
 use Rattle.model.specs.declared.command.Read.the-variants as found
 use Rattle.model.specs.declared.command.Decoded.{Decoded}
 use Rattle.model.specs.Ledger.{Ledger, LedgerShape, obey}
-use Rattle.model.specs.Representation.{Represents}
+use Rattle.model.specs.Marks.{RepresentsMarked}
 use Rattle.model.specs.Sheet.{fileRefusal, readLine}
 use Rattle.sheet_lines.specs.Append.{Appended}
 use Rattle.sheet.specs.declared.advance.Progress.{Progress}
-use Rattle.layout.specs.Memory.{State}
+use Rattle.layout.specs.Memory.{MarkedState}
 use Rattle.sheet_lines.specs.Lengths.{lineMost}
 
 -- the ledger after what was read
@@ -30,16 +30,16 @@ placeBy found.End following end = end
 unfoldable pub nextPlace : Decoded → ℕ → ℕ
 nextPlace d end = placeBy (d .read) (d .next) end
 
--- the state is some ledger's
-pub record Held (s : State) : Type 0 where
+-- the state with its marks is some ledger's
+pub record Held (s : MarkedState) : Type 0 where
   pub ledger : Ledger
   pub shape : LedgerShape ledger
-  pub represents : Represents ledger s
+  pub represents : RepresentsMarked ledger s
 
 -- A ROUND from p to r, at which d was read, of an input that ends at `end`: whatever ledger the state before is of, the line is that ledger's, and the state after is
 -- the next ledger's
-pub record Advanced (d : Decoded) (end : ℕ) (p : Progress) (before : State) (old : List ℕ) (r : Progress) (after : State) (new : List ℕ) : Type 0 where
+pub record Advanced (d : Decoded) (end : ℕ) (p : Progress) (before : MarkedState) (old : List ℕ) (r : Progress) (after : MarkedState) (new : List ℕ) : Type 0 where
   pub read : r .read ≡ nextPlace d end
   pub short : r .written ≤ p .written + lineMost
-  pub line : (L : Ledger) → LedgerShape L → Represents L before → Appended (lineOf L d) (p .written) old new (r .written)
-  pub represents : (L : Ledger) → LedgerShape L → Represents L before → Represents (ledgerNext L d) after
+  pub line : (L : Ledger) → LedgerShape L → RepresentsMarked L before → Appended (lineOf L d) (p .written) old new (r .written)
+  pub represents : (L : Ledger) → LedgerShape L → RepresentsMarked L before → RepresentsMarked (ledgerNext L d) after

@@ -6,12 +6,12 @@ use Prim.Native.Nat.{ℕ, _+_, _*_, _≤_}
 use lib.ListN.{length}
 use lib.Dec.{ltb}
 use Rattle.model.specs.Ledger.{Ledger, LedgerShape, fresh, upToZero}
-use Rattle.model.specs.Representation.{Represents}
+use Rattle.model.specs.Marks.{RepresentsMarked}
 use Rattle.model.specs.Sheet.{refusedLine, readsFrom, linesFrom, inputMost}
 use Rattle.sheet_lines.specs.Append.{Appended}
 use Rattle.sheet_lines.specs.Calls.{callsAndTotal}
 use Rattle.sheet.specs.declared.advance.Progress.{Progress}
-use Rattle.layout.specs.Memory.{State}
+use Rattle.layout.specs.Memory.{MarkedState}
 use Rattle.sheet.specs.Bounds.{linesMost, sheetMost}
 use Rattle.sheet_lines.specs.Lengths.{lineMost}
 use Rattle.model.specs.Numbers as refused
@@ -39,10 +39,10 @@ pub record Lined (bytes old new : List ℕ) (r : ℕ) : Type 0 where
   pub most : r ≤ linesMost
 
 -- HOW FAR THE SHEET HAS COME: the state is a ledger's, and the lines that are written and those of what is still to be read, at most so many commands, are all
-pub record Reached (input : List ℕ) (p : Progress) (s : State) (old new : List ℕ) : Type 0 where
+pub record Reached (input : List ℕ) (p : Progress) (s : MarkedState) (old new : List ℕ) : Type 0 where
   pub ledger : Ledger
   pub shape : LedgerShape ledger
-  pub represents : Represents ledger s
+  pub represents : RepresentsMarked ledger s
   pub lines : List ℕ
   pub appended : Appended lines 0 old new (p .written)
   pub short : p .written ≤ lineMost * p .read

@@ -1,7 +1,6 @@
 -- THE LINE OF A COMMAND (SCOPE 7.2), read off its answer.
 use mathlib.Core.Path.{_≡_}
 use mathlib.Core.List.{List}
-use mathlib.Core.Logic.{_⊎_}
 use Prim.Native.Nat.{ℕ, _+_, _≤_}
 use Rattle.model.specs.declared.answer.Answer.{Answer}
 use Rattle.model.specs.declared.answer.Answer.the-variants as answer
@@ -26,13 +25,11 @@ abbrev pub reportReopened : Answer → ℕ
 reportReopened (answer.Accepted r) = r .reopened
 reportReopened (answer.Refused n) = 0
 
--- an answer whose line is short: there are 1,024 slots, and one of S and R is 0
+-- an answer whose line is short: there are 1,024 slots, and none is struck and reopened at once
 pub record ShortAnswer (given : Answer) : Type 0 where
-  pub struck : reportStruck given ≤ slotsLength
-  pub reopened : reportReopened given ≤ slotsLength
-  pub one : (reportStruck given ≡ 0) ⊎ (reportReopened given ≡ 0)
+  pub together : reportStruck given + reportReopened given ≤ slotsLength
 
--- one line is appended: none of a command is longer than 11 bytes
+-- one line is appended: none of a command is longer than 12 bytes
 pub record LineAppended (bytes : List ℕ) (place : ℕ) (old new : List ℕ) (r : ℕ) : Type 0 where
   pub appended : Appended bytes place old new r
   pub short : r ≤ place + lineMost

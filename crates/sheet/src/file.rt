@@ -1,5 +1,8 @@
 // The lines of an input that is not too long: those of its commands, one after another, and then those of the board.
 use crate::advance::Progress;
+use layout::marks::MARKS;
+use layout::names::MarkedValue;
+use layout::names::NAMES;
 use layout::value::KILLERS;
 use layout::value::ROWS;
 use layout::value::SLOTS;
@@ -7,10 +10,10 @@ use layout::value::Value;
 ghost use mathlib.Core.Path.{_≡_};
 ghost use lib.ListN.{length};
 ghost use Rattle.model.specs.Ledger.{fresh};
-ghost use Rattle.model.specs.Representation.{Represents};
+ghost use Rattle.model.specs.Marks.{RepresentsMarked};
 ghost use Rattle.sheet_lines.specs.Append.{Appended, Room};
 ghost use Rattle.sheet.specs.File.{fileLines, countedLines, Fits, Lined};
-ghost use Rattle.layout.specs.Memory.{memory};
+ghost use Rattle.layout.specs.Memory.{markedMemory};
 ghost use Rattle.layout.specs.Sizes.{slotsLength};
 ghost use Rattle.sheet_lines.specs.Lengths.{boardLinesMost};
 
@@ -33,14 +36,16 @@ fn board_lines(out: &mut [u8], place: usize, counts: &[u8; 32], slots: &[u8]) ->
 // On a value and buffers that are fresh.
 fn fresh_lines(
     value: Value,
+    names: &mut [u8; NAMES],
     input: &[u8],
     out: &mut [u8],
     rows: &mut [u8],
     killers: &mut [u8],
     slots: &mut [u8],
+    marks: &mut [u8],
 ) -> usize
     requires { ⌜ Fits (now input) (now out) ⌝ }
-    requires { ⌜ Represents fresh (memory value rows killers slots) ⌝ }
+    requires { ⌜ RepresentsMarked fresh (markedMemory value names rows killers slots marks) ⌝ }
     ensures { λ r. ⌜ Lined (fileLines (now (input .entry))) (now (out .entry)) (now (out .exit)) r ⌝ }
 {
     let mut progress = Progress {
@@ -49,7 +54,16 @@ fn fresh_lines(
         written: 0,
     };
     while progress.read < input.len() {
-        progress = crate::advance::advance(progress, input, out, rows, killers, slots);
+        progress = crate::advance::advance(
+            progress,
+            names,
+            input,
+            out,
+            rows,
+            killers,
+            slots,
+            marks,
+        );
     }
     let end = progress.value;
     let heads = end.heads;
@@ -64,6 +78,18 @@ pub fn file_lines(input: &[u8], out: &mut [u8]) -> usize
     let mut rows = [255u8; ROWS];
     let mut killers = [255u8; KILLERS];
     let mut slots = [254u8; SLOTS];
-    let value = Value::fresh();
-    fresh_lines(value, input, out, &mut rows, &mut killers, &mut slots)
+    let mut marks = [0u8; MARKS];
+    let held = MarkedValue::fresh();
+    let value = held.value;
+    let mut names = held.names;
+    fresh_lines(
+        value,
+        &mut names,
+        input,
+        out,
+        &mut rows,
+        &mut killers,
+        &mut slots,
+        &mut marks,
+    )
 }

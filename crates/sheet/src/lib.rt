@@ -18,8 +18,8 @@ mod file; // all of them, and the lines of the board
 // The longest input that is read.
 pub const INPUT: usize = 32768;
 
-// The longest sheet: a line of at most 11 bytes for each byte of the input, 32 lines of calls of at most 91, one of 7 for the whole board, and the last line of 4.
-pub const ROOM: usize = 11 * INPUT + 32 * 91 + 7 + 4;
+// The longest sheet: a line of at most 12 bytes for each byte of the input, 32 lines of calls of at most 91, one of 7 for the whole board, and the last line of 4.
+pub const ROOM: usize = 12 * INPUT + 32 * 91 + 7 + 4;
 
 // All lines but the last.
 fn input_lines(input: &[u8], out: &mut [u8]) -> usize

@@ -1,4 +1,4 @@
-// The line of a command, by its kind and its answer: at most 11 bytes.
+// The line of a command, by its kind and its answer: at most 12 bytes.
 use model::answer::Answer;
 use model::command::Command;
 ghost use mathlib.Core.Path.{_≡_};
@@ -25,6 +25,8 @@ fn kind_of(command: Command) -> u8
         Command::Post => 4,
         Command::Retract(_) => 5,
         Command::Gap(_) => 6,
+        Command::Keep(_) => 7,
+        Command::Back(_) => 8,
     }
 }
 

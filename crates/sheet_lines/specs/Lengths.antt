@@ -13,7 +13,7 @@ decimalEnd = 10000
 
 -- the longest line of a command, the longest of a call, the longest lines of all calls, the longest of the whole board, and the longest lines of a board
 abbrev pub lineMost : ℕ
-lineMost = 11
+lineMost = 12
 
 abbrev pub callLineMost : ℕ
 callLineMost = 91

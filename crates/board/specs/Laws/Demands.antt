@@ -11,27 +11,28 @@ use Rattle.model.specs.Ledger.{Member, fresh, run}
 use Rattle.model.specs.Report.{slotCount, open?}
 use Rattle.model.specs.Summary.{Current, openTotal, openSum}
 use Rattle.model.specs.Laws.Theory as theory
+use Rattle.model.specs.Lists.{After}
 use Rattle.model.specs.Laws.Lists.{demand-3, demand-3-two, runs-represent}
 use Rattle.model.specs.Laws.Summary.{absent-zero, total-of-records, total-of-bytes}
 use Rattle.layout.specs.Places.{causeOf, killerOf}
 use Rattle.layout.specs.Summary.{noSummary}
 use Rattle.layout.specs.Sizes.{recordsLength}
 use Rattle.layout.specs.Memory.{Whole}
-use Rattle.board.specs.Lists.{After, boardAfter}
+use Rattle.board.specs.Lists.{boardAfter}
 
 -- FOR EVERY LIST OF COMMANDS
-module _ (ms : List Member) (s : Whole) (after : After ms s) where
+module _ {first : List ℕ} (ms : List Member) (s : Whole) (after : After first ms s) where
   abbrev B : Board
   B = boardAfter ms
 
   abbrev cause : ℕ → ℕ → ℕ
-  cause = causeOf (s .state .slots)
+  cause = causeOf (s .marked .state .slots)
 
   abbrev killer : ℕ → ℕ → ℕ
-  killer = killerOf (s .state .killers)
+  killer = killerOf (s .marked .state .killers)
 
   known : Recorded B cause killer
-  known = runs-represent ms s after .1 .stored .recorded
+  known = runs-represent ms s after .1 .state .stored .recorded
 
   -- no set at all, with a test or without one, is a ring (SCOPE 6.12, 1.13)
   pub rings-empty : (E : ℕ → ℕ → Type 0) → Ring B cause killer E → ⊥
@@ -82,10 +83,10 @@ module _ (ms : List Member) (s : Whole) (after : After ms s) where
   pub total-records : openTotal B ≡ openSum (s .table)
   total-records = total-of-records B (s .table) current
 
-  pub total-bytes : openTotal B ≡ slotCount (open? (s .state .slots))
-  total-bytes = total-of-bytes (run fresh ms) (s .state) (runs-represent ms s after .1)
+  pub total-bytes : openTotal B ≡ slotCount (open? (s .marked .state .slots))
+  total-bytes = total-of-bytes (run fresh ms) (s .marked .state) (runs-represent ms s after .1 .state)
 
 -- OF TWO LISTS (SCOPE 6.14): with the same calls and counts, and at least the same rules after the second, each slot open after it is open after the first
-pub more-rules-fewer-open : (ms ms′ : List Member) (s s′ : Whole) → After ms s → After ms′ s′ → AtLeast (boardAfter ms) (boardAfter ms′) → (c t : ℕ)
-    → Open (boardAfter ms′) (causeOf (s′ .state .slots)) c t → Open (boardAfter ms) (causeOf (s .state .slots)) c t
+pub more-rules-fewer-open : {first first′ : List ℕ} (ms ms′ : List Member) (s s′ : Whole) → After first ms s → After first′ ms′ s′ → AtLeast (boardAfter ms) (boardAfter ms′) → (c t : ℕ)
+    → Open (boardAfter ms′) (causeOf (s′ .marked .state .slots)) c t → Open (boardAfter ms) (causeOf (s .marked .state .slots)) c t
 more-rules-fewer-open ms ms′ s s′ after after′ = demand-3-two ms ms′ s s′ after after′

@@ -19,16 +19,19 @@ entered-by s bytes given after promise =
       left = after;
       given = given;
       value = refl;
+      names = refl;
       lengths = refl;
       rows = λ e. refl;
       killers = λ e. refl;
       slots = λ e. refl;
+      marks = λ e. refl;
       table = λ e. refl;
       promise = promise;
       stands = rw (
-        standing-all (s .state .rows) (after .state .rows),
-        standing-all (s .state .killers) (after .state .killers),
-        standing-all (s .state .slots) (after .state .slots),
+        standing-all (s .marked .state .rows) (after .marked .state .rows),
+        standing-all (s .marked .state .killers) (after .marked .state .killers),
+        standing-all (s .marked .state .slots) (after .marked .state .slots),
+        standing-all (s .marked .marks) (after .marked .marks),
         standing-all (s .table) (after .table),
       ) refl;
     }

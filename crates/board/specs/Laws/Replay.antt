@@ -19,7 +19,7 @@ use Rattle.model.specs.declared.answer.Answer.the-variants as answer
 use Rattle.model.specs.Tests.{upFrom}
 use Rattle.model.specs.Ledger.{Member, fresh, run, lengths, member}
 use Rattle.model.specs.Promise.{MemoryPromise, Promise}
-use Rattle.model.specs.Lists.{Runs, done, then, Entered}
+use Rattle.model.specs.Lists.{Runs, done, then, Entered, After}
 use Rattle.model.specs.Sheet.{inputMost}
 use Rattle.model.specs.Numbers as refused
 use Rattle.model.specs.Laws.Lists.{is-lengths, runs-represent}
@@ -30,12 +30,12 @@ use Rattle.layout.specs.declared.value.Value.{Value}
 use Rattle.layout.specs.declared.value.Heads.{Heads}
 use Rattle.layout.specs.declared.summary.Summary.{Summary}
 use Rattle.layout.specs.Summary.{noSummary, noRecords, noTable}
-use Rattle.layout.specs.Memory.{State, Whole, stateOf, wholeOf, lentOf, lentWith}
+use Rattle.layout.specs.Memory.{State, MarkedState, Whole, stateOf, markedOf, wholeOf, lentOf, lentWith}
+use Rattle.layout.specs.Names.{noNames}
 use Rattle.layout.specs.Value.{freshValue}
-use Rattle.layout.specs.Sizes.{CommandLent, badLent?, badTable?, killersLength, rowsLength, slotsLength, recordsLength}
+use Rattle.layout.specs.Sizes.{CommandLent, badBuffers?, badTable?, killersLength, rowsLength, slotsLength, marksLength, recordsLength}
 use Rattle.layout.specs.Laws.Memory.{filled-is}
 use Rattle.board.specs.declared.file.Position.{Position}
-use Rattle.board.specs.Lists.{After}
 use Rattle.board.specs.Store.{Stores}
 use Rattle.board.specs.Replay.{partOf, commandsBy, commandsFrom, fileCommands, endBy, endFrom, fileEnd, ReplayPromise, FreshPromise, FreshBuffers, IsFresh, CommandTaken, FileEnded, TakenBy, Taken, TakenTo, FileTaken, FileCounted}
 use Rattle.board.specs.Laws.Lists.{entered-by}
@@ -78,8 +78,8 @@ decoded-inside s at d is c e =
     subst (λ (x : Decoded). (at < x .next) × (x .next ≤ length s)) (sym is) h
 
 -- ONE ROUND OF THE CODE, at which d was read
-module _ (file : List ℕ) (p : Position) (before : State) (d : Decoded) (is : d ≡ readAt file (p .at)) (q : Position) where
-  pub taken-command : (after : State) (c : Command) → d .read ≡ found.Command c → q .at ≡ d .next → q .ran ≡ p .ran + 1 → q .number ≡ 0 → (given : Answer)
+module _ (file : List ℕ) (p : Position) (before : MarkedState) (d : Decoded) (is : d ≡ readAt file (p .at)) (q : Position) where
+  pub taken-command : (after : MarkedState) (c : Command) → d .read ≡ found.Command c → q .at ≡ d .next → q .ran ≡ p .ran + 1 → q .number ≡ 0 → (given : Answer)
       → MemoryPromise lengths before (partOf file (p .at) (d .next)) given after → Taken file p before q after
   taken-command after c e place count end given promise =
       record {
@@ -103,13 +103,14 @@ module _ (file : List ℕ) (p : Position) (before : State) (d : Decoded) (is : d
       }
 
 -- BEFORE THE FIRST ROUND
-pub taken-none : (file : List ℕ) (p : Position) (s : State) → p .at ≡ 0 → p .ran ≡ 0 → p .number ≡ 0 → IsFresh s → TakenTo file p s
+pub taken-none : (first file : List ℕ) (p : Position) (s : MarkedState) → length first ≡ marksLength → p .at ≡ 0 → p .ran ≡ 0 → p .number ≡ 0 → IsFresh first s
+    → TakenTo first file p s
 unfolding fileCommands fileEnd
-taken-none file p s place count end fresh =
+taken-none first file p s size place count end fresh =
     record {
       taken = [];
       table = noRecords;
-      stands = subst (λ (x : State). After [] (wholeOf x noRecords)) (sym (fresh .is)) done;
+      stands = subst (λ (x : MarkedState). After first [] (wholeOf x noRecords)) (sym (fresh .is)) (record { size = size; ran = done });
       count = count;
       few = omega arith;
       inside = omega arith;
@@ -137,16 +138,16 @@ counted-table : (heads : Heads) (slots : List ℕ) → Counted heads slots (coun
 counted-table heads slots =
     record { size = all-places (countedRecord heads slots) 0 recordsLength; each = λ c lc. at-place (countedRecord heads slots) noSummary 0 recordsLength c lc (omega arith) }
 
-abbrev tableAfter : Answer → State → List Summary → List Summary
-tableAfter (answer.Accepted r) after old = countedTable (after .value .heads) (after .slots)
+abbrev tableAfter : Answer → MarkedState → List Summary → List Summary
+tableAfter (answer.Accepted r) after old = countedTable (after .state .value .heads) (after .state .slots)
 tableAfter (answer.Refused n) after old = old
 
-taken-whole : (s after : State) (bytes : List ℕ) (given : Answer) (old : List Summary) → lentWith (wholeOf s old) ≡ lengths → MemoryPromise lengths s bytes given after
+taken-whole : (s after : MarkedState) (bytes : List ℕ) (given : Answer) (old : List Summary) → lentWith (wholeOf s old) ≡ lengths → MemoryPromise lengths s bytes given after
     → Promise (wholeOf s old) bytes given (wholeOf after (tableAfter given after old))
 taken-whole s after bytes (answer.Accepted r) old lent promise =
-    let new = countedTable (after .value .heads) (after .slots) in
+    let new = countedTable (after .state .value .heads) (after .state .slots) in
     promise-whole s after bytes (answer.Accepted r) old new lent promise (λ m d. let z : _≡_ {A = ℕ} 0 1 = cc in absurd (omega arith))
-    (λ z L shape rep. counted-current L after shape rep new (counted-table (after .value .heads) (after .slots)))
+    (λ z L shape rep. counted-current L (after .state) shape rep new (counted-table (after .state .value .heads) (after .state .slots)))
 taken-whole s after bytes (answer.Refused n) old lent promise =
     promise-whole s after bytes (answer.Refused n) old old lent promise (λ m d. refl) (λ z. absurd (promise .never-zero (ap answer.Refused z)))
 
@@ -160,14 +161,14 @@ members-more [] x = refl
 members-more (y ∷ ys) x = ap (λ (l : List Member). member y ∷ l) (members-more ys x)
 
 -- ONE ROUND MORE, at which d was read, with at most n commands left behind it
-module _ (file : List ℕ) (p q : Position) (before after : State) (t : TakenTo file p before) (further : p .at < length file) where
-  ended : (n : ℕ) → FileEnded n file p before q after → t .taken ++ [] ≡ fileCommands file → n ≡ fileEnd file → (p .at < q .at) × TakenTo file q after
+module _ (begun file : List ℕ) (p q : Position) (before after : MarkedState) (t : TakenTo begun file p before) (further : p .at < length file) where
+  ended : (n : ℕ) → FileEnded n file p before q after → t .taken ++ [] ≡ fileCommands file → n ≡ fileEnd file → (p .at < q .at) × TakenTo begun file q after
   ended n by all end = (
     omega (arith, by .place),
     record {
       taken = t .taken;
       table = t .table;
-      stands = subst (λ (s : State). After (map member (t .taken)) (wholeOf s (t .table))) (sym (by .same)) (t .stands);
+      stands = subst (λ (s : MarkedState). After begun (map member (t .taken)) (wholeOf s (t .table))) (sym (by .same)) (t .stands);
       count = by .count ∙ t .count;
       few = omega (arith, by .place, by .count, t .few);
       inside = omega (arith, by .place);
@@ -195,7 +196,7 @@ module _ (file : List ℕ) (p q : Position) (before after : State) (t : TakenTo 
         (entered-by w bytes (by .given) w′ (taken-whole before after bytes (by .given) (t .table) stood (by .promise)))
 
     more : (c : Command) → d .read ≡ found.Command c → CommandTaken (d .next) file p before q after → t .taken ++ (bytes ∷ commandsFrom n file (d .next)) ≡ fileCommands file
-        → endFrom n file (d .next) ≡ fileEnd file → (p .at < q .at) × TakenTo file q after
+        → endFrom n file (d .next) ≡ fileEnd file → (p .at < q .at) × TakenTo begun file q after
     more c e by all end =
         let l = inside c e .0 in
         let m = inside c e .1 in (
@@ -203,8 +204,8 @@ module _ (file : List ℕ) (p q : Position) (before after : State) (t : TakenTo 
           record {
             taken = t .taken ++ (bytes ∷ []);
             table = tableAfter (by .given) after (t .table);
-            stands = subst (λ (ms : List Member). After ms (wholeOf after (tableAfter (by .given) after (t .table)))) (sym (members-more (t .taken) bytes))
-                (runs-more (t .stands) (entered by));
+            stands = subst (λ (ms : List Member). After begun ms (wholeOf after (tableAfter (by .given) after (t .table)))) (sym (members-more (t .taken) bytes))
+                (record { size = t .stands .size; ran = runs-more (t .stands .ran) (entered by) });
             count = by .count ∙ ap (λ (k : ℕ). k + 1) (t .count) ∙ sym (length-append (t .taken) (bytes ∷ []));
             few = omega (arith, by .place, by .count, t .few);
             inside = omega (arith, by .place);
@@ -219,26 +220,26 @@ module _ (file : List ℕ) (p q : Position) (before after : State) (t : TakenTo 
         )
 
     one-more : (r : Read) → d .read ≡ r → TakenBy r (d .next) file p before q after → t .taken ++ commandsBy r bytes (commandsFrom n file (d .next)) ≡ fileCommands file
-        → endBy r (endFrom n file (d .next)) ≡ fileEnd file → (p .at < q .at) × TakenTo file q after
+        → endBy r (endFrom n file (d .next)) ≡ fileEnd file → (p .at < q .at) × TakenTo begun file q after
     one-more (found.Command c) e by all end = more c e by all end
     one-more (found.Refused k m) e by all end = ended m by all end
     one-more found.End e by all end = ended 0 by all end
 
-  pub taken-more : Taken file p before q after → (p .at < q .at) × TakenTo file q after
+  pub taken-more : Taken file p before q after → (p .at < q .at) × TakenTo begun file q after
   taken-more r = go (t .most) (t .enough) (t .all) (t .going further)
     where
       go : (n : ℕ) → length file ≤ p .at + n → t .taken ++ commandsFrom n file (p .at) ≡ fileCommands file → endFrom n file (p .at) ≡ fileEnd file
-          → (p .at < q .at) × TakenTo file q after
+          → (p .at < q .at) × TakenTo begun file q after
       go zero enough all end = absurd (omega arith)
       go (suc n) enough all end =
           one-more (readAt file (p .at)) (command-inside file (p .at)) n enough (readAt file (p .at) .read) refl (r .by) all end
 
 -- AFTER THE LAST
-pub file-taken : (file : List ℕ) (p : Position) (s : State) → TakenTo file p s → length file ≤ p .at → FileTaken file (p .number) (p .ran) s
-file-taken file p s t last =
+pub file-taken : (first file : List ℕ) (p : Position) (s : MarkedState) → TakenTo first file p s → length file ≤ p .at → FileTaken first file (p .number) (p .ran) s
+file-taken first file p s t last =
     record {
       table = t .table;
-      stands = subst (λ (l : List (List ℕ)). After (map member l) (wholeOf s (t .table))) whole (t .stands);
+      stands = subst (λ (l : List (List ℕ)). After first (map member l) (wholeOf s (t .table))) whole (t .stands);
       count = t .count ∙ ap length whole;
       end = t .over last;
     }
@@ -248,10 +249,10 @@ file-taken file p s t last =
         sym (append-nil (t .taken)) ∙ ap (λ (l : List (List ℕ)). t .taken ++ l) (sym (commands-end (t .most) file (p .at) last)) ∙ t .all
 
 -- the records that are counted then are those that the commands left: a board has one current table
-pub file-counted : (file : List ℕ) (number ran : ℕ) (s : State) (records : List Summary) → FileTaken file number ran s → Counted (s .value .heads) (s .slots) records
-    → FileCounted file number ran recordsLength (wholeOf s records)
-file-counted file number ran s records t counted =
-    record { stands = subst (λ (l : List Summary). After ms (wholeOf s l)) same (t .stands); count = t .count; end = t .end; all = refl }
+pub file-counted : (first file : List ℕ) (number ran : ℕ) (s : MarkedState) (records : List Summary) → FileTaken first file number ran s
+    → Counted (s .state .value .heads) (s .state .slots) records → FileCounted first file number ran recordsLength (wholeOf s records)
+file-counted first file number ran s records t counted =
+    record { stands = subst (λ (l : List Summary). After first ms (wholeOf s l)) same (t .stands); count = t .count; end = t .end; all = refl }
   where
     ms : List Member
     ms = map member (fileCommands file)
@@ -259,26 +260,32 @@ file-counted file number ran s records t counted =
     same : t .table ≡ records
     same =
         let is = runs-represent ms (wholeOf s (t .table)) (t .stands) in
-        current-one (run fresh ms .board) (t .table) records (is .2) (counted-current (run fresh ms) s (is .0) (is .1) records counted)
+        current-one (run fresh ms .board) (t .table) records (is .2) (counted-current (run fresh ms) (s .state) (is .0) (is .1 .state) records counted)
 
 -- THE WHOLE: the memory was made fresh,
 same-buffers : (value : Value) (rows rows′ killers killers′ slots slots′ : List ℕ) → rows ≡ rows′ → killers ≡ killers′ → slots ≡ slots′
     → stateOf value rows killers slots ≡ stateOf value rows′ killers′ slots′
 same-buffers value rows rows′ killers killers′ slots slots′ r k s = cc
 
-pub fresh-is : (rows killers slots : List ℕ) → FreshBuffers rows killers slots → IsFresh (stateOf freshValue rows killers slots)
-fresh-is rows killers slots f =
+same-marked : {s s′ : State} {names names′ : List ℕ} (marks : List ℕ) → s ≡ s′ → names ≡ names′ → markedOf s names marks ≡ markedOf s′ names′ marks
+same-marked marks e f = cc
+
+pub fresh-is : (names rows killers slots marks : List ℕ) → FreshBuffers rows killers slots → names ≡ noNames
+    → IsFresh marks (markedOf (stateOf freshValue rows killers slots) names marks)
+fresh-is names rows killers slots marks f forgot =
     record {
-      is = same-buffers freshValue rows _ killers _ slots _ (filled-is rowsLength 255 rows (f .rows-filled)) (filled-is killersLength 255 killers (f .killers-filled))
-          (filled-is slotsLength 254 slots (f .slots-filled));
+      is = same-marked marks
+          (same-buffers freshValue rows _ killers _ slots _ (filled-is rowsLength 255 rows (f .rows-filled)) (filled-is killersLength 255 killers (f .killers-filled))
+          (filled-is slotsLength 254 slots (f .slots-filled)))
+          forgot;
     }
 
 -- or the file was refused 1, 22 or 2, on the state s with a table of n records
-module _ (s : State) (file : List ℕ) (n : ℕ) where
-  abbrev Kept : ℕ → ℕ → State → List Summary → List Summary → Type 0
+module _ (s : MarkedState) (file : List ℕ) (n : ℕ) where
+  abbrev Kept : ℕ → ℕ → MarkedState → List Summary → List Summary → Type 0
   Kept number ran after old new = ReplayPromise (wholeOf s old) file number ran (wholeOf after new)
 
-  pub replay-lengths : badLent? (lentOf s) ≡ true → Stores (Kept refused.bufferLength 0 s) n 0 (noTable .records)
+  pub replay-lengths : badBuffers? (lentOf (s .state)) (length (s .marks)) ≡ true → Stores (Kept refused.bufferLength 0 s) n 0 (noTable .records)
   replay-lengths bad =
       stores-none
       (λ old size.
@@ -290,7 +297,7 @@ module _ (s : State) (file : List ℕ) (n : ℕ) where
         all-ran = λ e. let z = rw bad at e in absurd (omega arith);
       })
 
-  module _ (good : badLent? (lentOf s) ≡ false) where
+  module _ (good : badBuffers? (lentOf (s .state)) (length (s .marks)) ≡ false) where
     pub replay-table : n ≢ recordsLength → Stores (Kept refused.tableLength 0 s) n 0 (noTable .records)
     replay-table other =
         stores-none
@@ -321,8 +328,8 @@ module _ (s : State) (file : List ℕ) (n : ℕ) where
             all-ran = λ e. let z = rw (good, fits, long) at e in absurd (omega arith);
           })
 
-      pub replay-file : (number ran count : ℕ) (after : State) (records : List Summary) → ltb inputMost (length file) ≡ false
-          → FileCounted file number ran count (wholeOf after records) → Stores (Kept number ran after) n count records
+      pub replay-file : (number ran count : ℕ) (after : MarkedState) (records : List Summary) → ltb inputMost (length file) ≡ false
+          → FileCounted (s .marks) file number ran count (wholeOf after records) → Stores (Kept number ran after) n count records
       replay-file number ran count after records short t =
           let current = runs-represent (map member (fileCommands file)) (wholeOf after records) (t .stands) .2 in
           subst (λ (k : ℕ). Stores (Kept number ran after) n k records) (sym (t .all))
@@ -343,9 +350,9 @@ stays done = refl
 
 pub empty-file-fresh : (before after : Whole) (number ran : ℕ) → ReplayPromise before [] number ran after → FreshPromise before number after
 unfolding fileCommands fileEnd
-empty-file-fresh before after number ran promise = go (badLent? (lentWith before .buffers)) (badTable? (lentWith before)) refl refl
+empty-file-fresh before after number ran promise = go (badBuffers? (lentWith before .buffers) (lentWith before .marks)) (badTable? (lentWith before)) refl refl
   where
-    go : (b t : Bool) → badLent? (lentWith before .buffers) ≡ b → badTable? (lentWith before) ≡ t → FreshPromise before number after
+    go : (b t : Bool) → badBuffers? (lentWith before .buffers) (lentWith before .marks) ≡ b → badTable? (lentWith before) ≡ t → FreshPromise before number after
     go true t bad e =
         record {
           number-is = promise .number-is ∙ rw bad refl;
@@ -362,5 +369,5 @@ empty-file-fresh before after number ran promise = go (badLent? (lentWith before
         record {
           number-is = promise .number-is ∙ rw (good, right) refl;
           unchanged = λ m d. let z = promise .number-is in let z′ = rw (good, right) at z in absurd (omega arith);
-          made = λ d. stays (promise .stands (rw (good, right) refl));
+          made = λ d. stays (promise .stands (rw (good, right) refl) .ran);
         }

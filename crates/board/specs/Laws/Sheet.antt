@@ -27,7 +27,8 @@ use Rattle.model.specs.Refusals.{firstOf}
 use Rattle.model.specs.Numbers as refused
 use Rattle.model.specs.Sheet.{endLine, totalLine, callLines, boardLines, fileRefusal, readLine, inputMost, upToRefusal, readsFrom, linesFrom, sheetOf}
 use Rattle.layout.specs.Memory.{Whole}
-use Rattle.board.specs.Lists.{After, boardAfter}
+use Rattle.model.specs.Lists.{After}
+use Rattle.board.specs.Lists.{boardAfter}
 use Rattle.board.specs.Replay.{partOf, commandsBy, commandsFrom, fileCommands}
 use Rattle.board.specs.Sheet.{Prints, commandLines, ledgerFrom}
 use Rattle.board.specs.Laws.Demands.{total-records, total-bytes}
@@ -87,37 +88,45 @@ read-whole s at c = go (leb (length s) at) (isKind (getD s at 0)) (leb (at + 1 +
     go false false k known f e = let z : _≡_ {A = ℕ} 0 1 = cc in absurd (omega arith)
 
 -- TWO BODIES OF ONE KIND with the same bytes are one command
-one-of-kinds : (k : ℕ) → isKind k ≡ true → eqb k 1 ≡ false → eqb k 2 ≡ false → eqb k 3 ≡ false → eqb k 4 ≡ false → eqb k 5 ≡ false → eqb k 6 ≡ false → ⊥
-one-of-kinds k known a b c d e f =
-    let both = and-eq-true-iff (leb 1 k) (leb k 6) .0 known in
-    let least = leb-true 1 k (both .0) in
-    let most = leb-true k 6 (both .1) in
-    go k least most (eqb-false k 1 a) (eqb-false k 2 b) (eqb-false k 3 c) (eqb-false k 4 d) (eqb-false k 5 e) (eqb-false k 6 f)
-  where
-    go : (k : ℕ) → 1 ≤ k → k ≤ 6 → (k ≡ 1 → ⊥) → (k ≡ 2 → ⊥) → (k ≡ 3 → ⊥) → (k ≡ 4 → ⊥) → (k ≡ 5 → ⊥) → (k ≡ 6 → ⊥) → ⊥
-    go k l m a b c d e f = omega arith
+four-passed : (k : ℕ) → 1 ≤ k → (k ≡ 1 → ⊥) → (k ≡ 2 → ⊥) → (k ≡ 3 → ⊥) → (k ≡ 4 → ⊥) → 5 ≤ k
+four-passed k least a b c d = omega arith
+
+eight-passed : (k : ℕ) → 5 ≤ k → k ≤ 8 → (k ≡ 5 → ⊥) → (k ≡ 6 → ⊥) → (k ≡ 7 → ⊥) → (k ≡ 8 → ⊥) → ⊥
+eight-passed k least most a b c d = omega arith
+
+one-of-kinds : (k : ℕ) → isKind k ≡ true → eqb k 1 ≡ false → eqb k 2 ≡ false → eqb k 3 ≡ false → eqb k 4 ≡ false → eqb k 5 ≡ false → eqb k 6 ≡ false → eqb k 7 ≡ false
+    → eqb k 8 ≡ false → ⊥
+one-of-kinds k known a b c d e f g h =
+    let both = and-eq-true-iff (leb 1 k) (leb k 8) .0 known in
+    let low = four-passed k (leb-true 1 k (both .0)) (eqb-false k 1 a) (eqb-false k 2 b) (eqb-false k 3 c) (eqb-false k 4 d) in
+    eight-passed k low (leb-true k 8 (both .1)) (eqb-false k 5 e) (eqb-false k 6 f) (eqb-false k 7 g) (eqb-false k 8 h)
 
 command-alike : (s t : List ℕ) (k b b′ : ℕ) → isKind k ≡ true → ((j : ℕ) → j < bodySize k → getD s (b + j) 0 ≡ getD t (b′ + j) 0) → commandAt s k b ≡ commandAt t k b′
-command-alike s t k b b′ known = go (eqb k 1) (eqb k 2) (eqb k 3) (eqb k 4) (eqb k 5) (eqb k 6) (one-of-kinds k known)
+command-alike s t k b b′ known =
+    go (eqb k 1) (eqb k 2) (eqb k 3) (eqb k 4) (eqb k 5) (eqb k 6) (eqb k 7) (eqb k 8) (one-of-kinds k known)
   where
     first : getD s (b + 0) 0 ≡ getD t (b′ + 0) 0 → getD s b 0 ≡ getD t b′ 0
     first e = rw (add-zero b, add-zero b′) at e
 
-    go : (u v w x y z : Bool) → (u ≡ false → v ≡ false → w ≡ false → x ≡ false → y ≡ false → z ≡ false → ⊥)
-        → ((j : ℕ) → j < cond u 32 (cond v 6 (cond w 4 (cond y 1 (cond z 5 0)))) → getD s (b + j) 0 ≡ getD t (b′ + j) 0)
+    go : (u v w x y z m n : Bool) → (u ≡ false → v ≡ false → w ≡ false → x ≡ false → y ≡ false → z ≡ false → m ≡ false → n ≡ false → ⊥)
+        → ((j : ℕ) → j < cond u 32 (cond v 6 (cond w 4 (cond y 1 (cond z 5 (cond m 1 (cond n 1 0)))))) → getD s (b + j) 0 ≡ getD t (b′ + j) 0)
         → cond u kind.Board
-        (cond v (kind.Head (headAt s b)) (cond w (kind.Row (rowAt s b)) (cond x kind.Post (cond y (kind.Retract (getD s b 0)) (kind.Gap (gapAt s b))))))
+        (cond v (kind.Head (headAt s b)) (cond w (kind.Row (rowAt s b)) (cond x kind.Post (cond y (kind.Retract (getD s b 0))
+        (cond z (kind.Gap (gapAt s b)) (cond m (kind.Keep (getD s b 0)) (kind.Back (getD s b 0))))))))
         ≡ cond u kind.Board
-        (cond v (kind.Head (headAt t b′)) (cond w (kind.Row (rowAt t b′)) (cond x kind.Post (cond y (kind.Retract (getD t b′ 0)) (kind.Gap (gapAt t b′))))))
-    go true v w x y z last same = refl
-    go false true w x y z last same =
+        (cond v (kind.Head (headAt t b′)) (cond w (kind.Row (rowAt t b′)) (cond x kind.Post (cond y (kind.Retract (getD t b′ 0))
+        (cond z (kind.Gap (gapAt t b′)) (cond m (kind.Keep (getD t b′ 0)) (kind.Back (getD t b′ 0))))))))
+    go true v w x y z m n last same = refl
+    go false true w x y z m n last same =
         rw (first (same 0 (omega arith)), same 1 (omega arith), same 2 (omega arith), same 3 (omega arith), same 4 (omega arith), same 5 (omega arith)) refl
-    go false false true x y z last same = rw (first (same 0 (omega arith)), same 1 (omega arith), same 2 (omega arith), same 3 (omega arith)) refl
-    go false false false true y z last same = refl
-    go false false false false true z last same = ap kind.Retract (first (same 0 (omega arith)))
-    go false false false false false true last same =
+    go false false true x y z m n last same = rw (first (same 0 (omega arith)), same 1 (omega arith), same 2 (omega arith), same 3 (omega arith)) refl
+    go false false false true y z m n last same = refl
+    go false false false false true z m n last same = ap kind.Retract (first (same 0 (omega arith)))
+    go false false false false false true m n last same =
         rw (first (same 0 (omega arith)), same 1 (omega arith), same 2 (omega arith), same 3 (omega arith), same 4 (omega arith)) refl
-    go false false false false false false last same = absurd (last refl refl refl refl refl refl)
+    go false false false false false false true n last same = ap kind.Keep (first (same 0 (omega arith)))
+    go false false false false false false false true last same = ap kind.Back (first (same 0 (omega arith)))
+    go false false false false false false false false last same = absurd (last refl refl refl refl refl refl refl refl)
 
 -- bytes that are a command with its counts, and nothing more
 pub record Alone (bytes : List ℕ) (c : Command) (counts : List ℕ) : Type 0 where
@@ -252,8 +261,8 @@ module _ (input : List ℕ) (short : length input ≤ inputMost) where
       }
 
   -- which the records and the slot bytes give
-  pub printed-total : (s : Whole) → After (map member (fileCommands input)) s → (length (B .counts) ≡ 0 → ⊥)
-      → Prints input B (openSum (s .table)) × Prints input B (slotCount (open? (s .state .slots)))
+  pub printed-total : {first : List ℕ} (s : Whole) → After first (map member (fileCommands input)) s → (length (B .counts) ≡ 0 → ⊥)
+      → Prints input B (openSum (s .table)) × Prints input B (slotCount (open? (s .marked .state .slots)))
   printed-total s after there =
       let ms = map member (fileCommands input) in (
         subst (λ (n : ℕ). Prints input B n) (total-records ms s after) (prints-open-total there),

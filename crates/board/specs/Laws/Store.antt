@@ -15,24 +15,24 @@ use Rattle.model.specs.Promise.{numberOf, MemoryPromise, Promise}
 use Rattle.model.specs.Representation.{Represents}
 use Rattle.model.specs.Summary.{Current}
 use Rattle.model.specs.Laws.Entry.{refused-lengths, refused-table, refused-whole}
-use Rattle.model.specs.Laws.Shapes.{lent-sizes}
+use Rattle.model.specs.Laws.Shapes.{lent-sizes, marks-size}
 use Rattle.model.specs.Numbers as refused
 use Rattle.layout.specs.declared.summary.Summary.{Summary}
 use Rattle.layout.specs.Summary.{noTable, replaced}
-use Rattle.layout.specs.Memory.{State, stateOf, wholeOf, lentOf, lentWith}
-use Rattle.layout.specs.Sizes.{CommandLent, badLent?, badTable?, recordsLength}
+use Rattle.layout.specs.Memory.{MarkedState, stateOf, markedOf, wholeOf, lentOf, lentWith}
+use Rattle.layout.specs.Sizes.{CommandLent, badBuffers?, badTable?, recordsLength}
 use Rattle.summary_counts.specs.Counted.{Counted}
 use Rattle.summary_counts.specs.Laws.Counted.{counted-current}
 use Rattle.board.specs.declared.run.Done.{Done}
 use Rattle.board.specs.Store.{Stores, countFor, WithRecords}
 
 -- THE ENTRY'S PROMISE with the right lengths lent: the table is kept by a refusal, and is current on what an accepted command leaves
-pub promise-whole : (s s′ : State) (bytes : List ℕ) (given : Answer) (old new : List Summary) → lentWith (wholeOf s old) ≡ lengths → MemoryPromise lengths s bytes given s′
+pub promise-whole : (s s′ : MarkedState) (bytes : List ℕ) (given : Answer) (old new : List Summary) → lentWith (wholeOf s old) ≡ lengths → MemoryPromise lengths s bytes given s′
     → ((n : ℕ) → given ≡ answer.Refused n → new ≡ old)
-    → (numberOf given ≡ 0 → (L : Ledger) → LedgerShape L → Represents L s′ → Current (L .board) new)
+    → (numberOf given ≡ 0 → (L : Ledger) → LedgerShape L → Represents L (s′ .state) → Current (L .board) new)
     → Promise (wholeOf s old) bytes given (wholeOf s′ new)
 promise-whole s s′ bytes given old new lent promise kept current =
-    record { state = subst (λ (l : CommandLent). MemoryPromise l s bytes given s′) (sym lent) promise; table-kept = kept; current = current }
+    record { memory = subst (λ (l : CommandLent). MemoryPromise l s bytes given s′) (sym lent) promise; table-kept = kept; current = current }
 
 -- no record is to be stored: what is promised of the table as it was is promised
 pub stores-none : {Promised : List Summary → List Summary → Type 0} {n : ℕ} {records : List Summary} → ((old : List Summary) → length old ≡ n → Promised old old)
@@ -63,16 +63,16 @@ stores-all {Promised} {n} {records} right size promised =
     }
 
 -- A COMMAND, on the state s with a table of n records
-module _ (s : State) (bytes : List ℕ) (n : ℕ) where
-  abbrev Kept : Answer → State → List Summary → List Summary → Type 0
+module _ (s : MarkedState) (bytes : List ℕ) (n : ℕ) where
+  abbrev Kept : Answer → MarkedState → List Summary → List Summary → Type 0
   Kept given after old new = Promise (wholeOf s old) bytes given (wholeOf after new)
 
   -- refused for a buffer, or for the table
-  pub stores-lengths : badLent? (lentOf s) ≡ true → Stores (Kept (answer.Refused refused.bufferLength) s) n 0 (noTable .records)
+  pub stores-lengths : badBuffers? (lentOf (s .state)) (length (s .marks)) ≡ true → Stores (Kept (answer.Refused refused.bufferLength) s) n 0 (noTable .records)
   stores-lengths bad =
       stores-none (λ old e. refused-whole (wholeOf s old) bytes refused.bufferLength (refused-lengths (lentWith (wholeOf s old)) s bytes bad))
 
-  module _ (good : badLent? (lentOf s) ≡ false) where
+  module _ (good : badBuffers? (lentOf (s .state)) (length (s .marks)) ≡ false) where
     pub stores-table : n ≢ recordsLength → Stores (Kept (answer.Refused refused.tableLength) s) n 0 (noTable .records)
     stores-table other =
         stores-none (λ old e. refused-whole (wholeOf s old) bytes refused.tableLength (refused-table (lentWith (wholeOf s old)) s bytes good (another old e)))
@@ -81,31 +81,35 @@ module _ (s : State) (bytes : List ℕ) (n : ℕ) where
         another old e = rw (e, ne-eqb n recordsLength other) refl
 
     -- obeyed: the records are those of the heads and slot bytes that are left
-    module _ (right : n ≡ recordsLength) (after : State) where
+    module _ (right : n ≡ recordsLength) (after : MarkedState) where
       own-lengths : (old : List Summary) → length old ≡ recordsLength → lentWith (wholeOf s old) ≡ lengths
       own-lengths old e =
-          let z = lent-sizes (lentOf s) good in
+          let apart = marks-size (lentOf (s .state)) (length (s .marks)) good in
+          let m = apart .1 in
+          let z = lent-sizes (lentOf (s .state)) (apart .0) in
           let r = z .0 in
           let k = z .1 in
           let b = z .2 in
           cc
 
       stores-given : (given : Answer) (records : List Summary) → MemoryPromise lengths s bytes given after
-          → ((countFor given ≡ 0 → ⊥) → Counted (after .value .heads) (after .slots) records) → Stores (Kept given after) n (countFor given) records
+          → ((countFor given ≡ 0 → ⊥) → Counted (after .state .value .heads) (after .state .slots) records) → Stores (Kept given after) n (countFor given) records
       stores-given (answer.Accepted r) records promise counted =
           let c = counted (λ z. omega (arith, z)) in
           stores-all right (c .size)
           (λ old e.
           promise-whole s after bytes (answer.Accepted r) old records (own-lengths old e) promise (λ m d. let z : _≡_ {A = ℕ} 0 1 = cc in absurd (omega arith))
-          (λ z L shape rep. counted-current L after shape rep records c))
+          (λ z L shape rep. counted-current L (after .state) shape rep records c))
       stores-given (answer.Refused m) records promise counted =
           stores-none
           (λ old e.
           promise-whole s after bytes (answer.Refused m) old old (own-lengths old (e ∙ right)) promise (λ k d. refl)
           (λ z. absurd (promise .never-zero (ap answer.Refused z))))
 
-      pub stores-done : (outcome : Outcome) (done : Done) → after .value ≡ outcome .value → MemoryPromise lengths s bytes (outcome .answer) after → WithRecords outcome (after .slots) done
-          → Stores (Kept (done .outcome .answer) (stateOf (done .outcome .value) (after .rows) (after .killers) (after .slots))) n (done .count) (done .table .records)
+      pub stores-done : (outcome : Outcome) (done : Done) → after .state .value ≡ outcome .value → MemoryPromise lengths s bytes (outcome .answer) after
+          → WithRecords outcome (after .state .slots) done
+          → Stores (Kept (done .outcome .answer) (markedOf (stateOf (done .outcome .value) (after .state .rows) (after .state .killers) (after .state .slots)) (after .names) (after .marks)))
+          n (done .count) (done .table .records)
       stores-done outcome done value promise w =
           rw (w .outcome-same, ← value, w .count)
           (stores-given (outcome .answer) (done .table .records) promise (λ z. rw (← value) at (w .counted (λ e. z (sym (w .count) ∙ e)))))

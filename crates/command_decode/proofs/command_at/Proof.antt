@@ -1,7 +1,7 @@
--- Each arm's kind picks its case of the definition, and its body's length. A kind that is none of 1 to 5 is 6.
+-- Each arm's kind picks its case of the definition, and its body's length. A kind that is none of 1 to 7 is 8.
 use mathlib.Core.Path.{_≡_}
 use mathlib.Core.Bool.{true, and-eq-true-iff}
-use Prim.Native.Nat.{ℕ}
+use Prim.Native.Nat.{ℕ, _≤_}
 use native.Mathlib.Omega.{arith}
 use lib.Dec.{leb}
 use borrow.Author.Tests.{leb-true}
@@ -9,10 +9,18 @@ use Rattle.model.specs.Commands.{isKind}
 use Rattle.command_decode.proofs.command_at.Statement.{statement}
 use Rattle.command_decode.proofs.command_at.Tie as tie
 
-last-kind : (k : ℕ) → isKind k ≡ true → ((((Unit {0} × (k ≡ 1 → ⊥)) × (k ≡ 2 → ⊥)) × (k ≡ 3 → ⊥)) × (k ≡ 4 → ⊥)) × (k ≡ 5 → ⊥) → k ≡ 6
+past-four : (k : ℕ) → 1 ≤ k → (k ≡ 1 → ⊥) → (k ≡ 2 → ⊥) → (k ≡ 3 → ⊥) → (k ≡ 4 → ⊥) → 5 ≤ k
+past-four k least a b c d = omega arith
+
+past-seven : (k : ℕ) → 5 ≤ k → k ≤ 8 → (k ≡ 5 → ⊥) → (k ≡ 6 → ⊥) → (k ≡ 7 → ⊥) → k ≡ 8
+past-seven k least most a b c = omega arith
+
+last-kind : (k : ℕ) → isKind k ≡ true
+    → ((((((Unit {0} × (k ≡ 1 → ⊥)) × (k ≡ 2 → ⊥)) × (k ≡ 3 → ⊥)) × (k ≡ 4 → ⊥)) × (k ≡ 5 → ⊥)) × (k ≡ 6 → ⊥)) × (k ≡ 7 → ⊥) → k ≡ 8
 last-kind k is rest =
-    let both = and-eq-true-iff (leb 1 k) (leb k 6) .0 is in
-    omega (arith, leb-true 1 k (both .0), leb-true k 6 (both .1))
+    let both = and-eq-true-iff (leb 1 k) (leb k 8) .0 is in
+    let low = rest .0 .0 .0 in
+    past-seven k (past-four k (leb-true 1 k (both .0)) (low .0 .0 .0 .1) (low .0 .0 .1) (low .0 .1) (low .1)) (leb-true k 8 (both .1)) (rest .0 .0 .1) (rest .0 .1) (rest .1)
 
 head-at-requires : tie.Need-head-at-requires
 head-at-requires c κs = rw (c .match .keys2) at (c .before .before .pre .1)
@@ -26,9 +34,18 @@ shared-slice-read-t8 c =
     omega arith
 
 gap-at-requires : tie.Need-gap-at-requires
-gap-at-requires c κs =
-    let pre = c .before .before .pre in
-    rw (last-kind _ (pre .0) (c .match .rest)) at (pre .1)
+gap-at-requires c κs = rw (c .match .keys6) at (c .before .before .pre .1)
+
+shared-slice-read-t11 : tie.Need-shared-slice-read-t11
+shared-slice-read-t11 c =
+    let fits = rw (c .before .match .keys7) at (c .before .before .before .pre .1) in
+    omega arith
+
+shared-slice-read-t13 : tie.Need-shared-slice-read-t13
+shared-slice-read-t13 c =
+    let pre = c .before .before .before .pre in
+    let fits = rw (last-kind _ (pre .0) (c .before .match .rest)) at (pre .1) in
+    omega arith
 
 returns : tie.Need-returns
 returns c = simp (c .match .keys1)
@@ -46,7 +63,13 @@ returns-5 : tie.Need-returns-5
 returns-5 c = simp (c .before .match .keys5)
 
 returns-6 : tie.Need-returns-6
-returns-6 c = simp (last-kind _ (c .before .before .before .pre .0) (c .before .match .rest), c .gap-at .ensures)
+returns-6 c = simp (c .before .match .keys6, c .gap-at .ensures)
+
+returns-7 : tie.Need-returns-7
+returns-7 c = simp (c .before .match .keys7)
+
+returns-8 : tie.Need-returns-8
+returns-8 c = simp (last-kind _ (c .before .before .before .pre .0) (c .before .match .rest))
 
 pub command-at-spec : {M : Type 1} → statement M
 command-at-spec =
@@ -56,9 +79,13 @@ command-at-spec =
     row-at-requires
     shared-slice-read-t8
     gap-at-requires
+    shared-slice-read-t11
+    shared-slice-read-t13
     returns
     returns-2
     returns-3
     returns-4
     returns-5
-    returns-6)
+    returns-6
+    returns-7
+    returns-8)

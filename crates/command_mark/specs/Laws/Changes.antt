@@ -10,9 +10,10 @@ use Rattle.model.specs.Report.{open?, struck?, struckBetween, reopenedBetween}
 use Rattle.model.specs.Laws.Tests.{count-same}
 use Rattle.layout.specs.Marks.{partFrom}
 use Rattle.layout.specs.Sizes.{slotsLength}
-use Rattle.command_mark.specs.Changes.{Between}
+use Rattle.command_mark.specs.declared.changes.Changes.{Changes}
+use Rattle.command_mark.specs.Changes.{Between, Few}
 use Rattle.command_mark.specs.Laws.Copy.{part-width}
-use Rattle.model.specs.Laws.Counts.{open-place, struck-place}
+use Rattle.model.specs.Laws.Counts.{open-place, struck-place, changes-few}
 
 pub closed-place : (before after : List ℕ) (i : ℕ)
     → eqb (getD before i 0) 255 && ltb (getD after i 0) 64 ≡ open? before (i / 32) (i % 32) && struck? after (i / 32) (i % 32)
@@ -45,3 +46,7 @@ module _ (marks : List ℕ) (from : ℕ) where
         struck = e ∙ ap (λ (l : List ℕ). struckBetween slots l) same;
         reopened = e′ ∙ opens-back slots slotPart ∙ ap (λ (l : List ℕ). reopenedBetween slots l) same;
       }
+
+-- no slot is struck and reopened at once
+pub between-few : {before after : List ℕ} {r : Changes} → Between before after r → Few r
+between-few {before} {after} b = record { together = rw (b .struck, b .reopened) (changes-few before after) }

@@ -3,13 +3,13 @@ use native.Mathlib.Omega.{arith}
 use borrow.Author.Needs.{needs}
 use Rattle.command_obey.proofs.obey.Statement.{statement}
 use Rattle.command_obey.proofs.obey.Tie as tie
-use Rattle.command_obey.specs.Laws.Obeys.{other-obeys, board-obeys}
+use Rattle.command_obey.specs.Laws.Obeys.{other-obeys, board-obeys, mark-obeys}
 
 enum-told : tie.Need-enum-told
 enum-told c = search needs
 
-make-board-requires : tie.Need-make-board-requires
-make-board-requires c κs = search needs
+make-anew-requires : tie.Need-make-anew-requires
+make-anew-requires c κs = search needs
 
 enum-known-command : tie.Need-enum-known-command
 enum-known-command c = search needs
@@ -41,6 +41,18 @@ enum-known-command-4 c = search needs
 draft-gap-requires : tie.Need-draft-gap-requires
 draft-gap-requires c κs = search needs
 
+enum-known-command-5 : tie.Need-enum-known-command-5
+enum-known-command-5 c = search needs
+
+keep-board-requires : tie.Need-keep-board-requires
+keep-board-requires c κs = search needs
+
+enum-known-command-6 : tie.Need-enum-known-command-6
+enum-known-command-6 c = search needs
+
+back-board-requires : tie.Need-back-board-requires
+back-board-requires c κs = search needs
+
 same-length : tie.Need-same-length
 same-length c = search needs
 
@@ -53,13 +65,13 @@ same-length-3 c = search needs
 returns : tie.Need-returns
 returns c =
     let called = c .before .before .before .before .before .before in
-    board-obeys (called .before .before .before .before .enum-told .given .1) (called .make-board .ensures)
+    board-obeys (called .before .before .before .before .before .enum-told .given .1) (called .make-anew .ensures)
 
 returns-2 : tie.Need-returns-2
-returns-2 c = other-obeys (c .before .before .command .given .1) (omega arith) (c .start-draft .ensures _ _ _ _)
+returns-2 c = other-obeys (c .before .before .command .given .1) (omega arith) (omega arith) (c .start-draft .ensures _ _ _ _)
 
 returns-3 : tie.Need-returns-3
-returns-3 c = other-obeys (c .before .before .command2 .given .1) (omega arith) (c .add-row .ensures _ _ _ _)
+returns-3 c = other-obeys (c .before .before .command2 .given .1) (omega arith) (omega arith) (c .add-row .ensures _ _ _ _)
 
 same-length-4 : tie.Need-same-length-4
 same-length-4 c = search needs
@@ -73,7 +85,7 @@ same-length-6 c = search needs
 returns-4 : tie.Need-returns-4
 returns-4 c =
     let called = c .before .before .before .before .before .before in
-    other-obeys (called .before .before .before .before .enum-told2 .given .1) (omega arith) (called .post .ensures _)
+    other-obeys (called .before .before .before .before .enum-told2 .given .1) (omega arith) (omega arith) (called .post .ensures _)
 
 same-length-7 : tie.Need-same-length-7
 same-length-7 c = search needs
@@ -87,17 +99,51 @@ same-length-9 c = search needs
 returns-5 : tie.Need-returns-5
 returns-5 c =
     let called = c .before .before .before .before .before .before in
-    other-obeys (called .before .before .before .before .before .command3 .given .1) (omega arith) (called .retract .ensures _)
+    other-obeys (called .before .before .before .before .before .command3 .given .1) (omega arith) (omega arith) (called .retract .ensures _)
 
 returns-6 : tie.Need-returns-6
-returns-6 c = other-obeys (c .before .before .command4 .given .1) (omega arith) (c .draft-gap .ensures _ _ _ _)
+returns-6 c = other-obeys (c .before .before .command4 .given .1) (omega arith) (omega arith) (c .draft-gap .ensures _ _ _ _)
+
+same-length-10 : tie.Need-same-length-10
+same-length-10 c = search needs
+
+same-length-11 : tie.Need-same-length-11
+same-length-11 c = search needs
+
+same-length-12 : tie.Need-same-length-12
+same-length-12 c = search needs
+
+same-length-13 : tie.Need-same-length-13
+same-length-13 c = search needs
+
+returns-7 : tie.Need-returns-7
+returns-7 c =
+    let called = c .before .before in
+    mark-obeys (called .before .before .before .before .before .before .before .command5 .given .1) (omega arith) (called .keep-board .ensures _)
+
+same-length-14 : tie.Need-same-length-14
+same-length-14 c = search needs
+
+same-length-15 : tie.Need-same-length-15
+same-length-15 c = search needs
+
+same-length-16 : tie.Need-same-length-16
+same-length-16 c = search needs
+
+same-length-17 : tie.Need-same-length-17
+same-length-17 c = search needs
+
+returns-8 : tie.Need-returns-8
+returns-8 c =
+    let called = c .before .before .before .before .before .before in
+    mark-obeys (called .before .before .before .before .before .before .before .command6 .given .1) (omega arith) (called .back-board .ensures _)
 
 pub obey-spec : {M : Type 1} → statement M
 obey-spec =
     tie.close
     (tie.spec
     enum-told
-    make-board-requires
+    make-anew-requires
     enum-known-command
     start-draft-requires
     enum-known-command-2
@@ -108,6 +154,10 @@ obey-spec =
     retract-requires
     enum-known-command-4
     draft-gap-requires
+    enum-known-command-5
+    keep-board-requires
+    enum-known-command-6
+    back-board-requires
     same-length
     same-length-2
     same-length-3
@@ -122,4 +172,14 @@ obey-spec =
     same-length-8
     same-length-9
     returns-5
-    returns-6)
+    returns-6
+    same-length-10
+    same-length-11
+    same-length-12
+    same-length-13
+    returns-7
+    same-length-14
+    same-length-15
+    same-length-16
+    same-length-17
+    returns-8)

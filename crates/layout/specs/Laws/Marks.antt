@@ -8,8 +8,8 @@ use native.Mathlib.Omega.{arith}
 use lib.ListN.{length, getD, take, drop, length-append, length-take, length-drop, List·getD-append}
 use lib.Seq.{length-take-le, getD-take, getD-drop, getD-append-add, ext-getD}
 use Rattle.layout.specs.Bounds.{Sizes}
-use Rattle.layout.specs.Marks.{markLength, marksLength, markStart, killersStart, slotsStart, partFrom, withPart, markedRows, markedKillers, markedSlots, withMark}
-use Rattle.layout.specs.Sizes.{killersLength, rowsLength}
+use Rattle.layout.specs.Marks.{markStart, killersStart, slotsStart, partFrom, withPart, markedRows, markedKillers, markedSlots, withMark}
+use Rattle.layout.specs.Sizes.{killersLength, rowsLength, markLength, marksLength}
 
 module _ (l : List ℕ) (at : ℕ) (xs : List ℕ) (fits : at + length xs ≤ length l) where
   front : length (take at l) ≡ at

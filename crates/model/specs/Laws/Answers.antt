@@ -8,7 +8,7 @@ use Rattle.model.specs.declared.answer.Report.{Report}
 use Rattle.model.specs.declared.answer.Answer.{Answer}
 use Rattle.model.specs.declared.answer.Answer.the-variants as answer
 use Rattle.model.specs.Promise.{numberOf, reportValues, valuesOf, NeverZero, valuesAt, MemoryPromise}
-use Rattle.layout.specs.Memory.{State}
+use Rattle.layout.specs.Memory.{MarkedState}
 use Rattle.layout.specs.Sizes.{CommandLent}
 
 pub refused-by : (a : Answer) (n : ℕ) → numberOf a ≡ suc n → a ≡ answer.Refused (suc n)
@@ -37,7 +37,7 @@ never-zero-by a n r number values refused =
     absurd (omega arith)
 
 -- ON ANY MEMORY the number 0 is that of an accepted command and of nothing else
-pub accepted-zero : {lent : CommandLent} {before after : State} {bytes : List ℕ} (given : Answer) → MemoryPromise lent before bytes given after → numberOf given ≡ 0
+pub accepted-zero : {lent : CommandLent} {before after : MarkedState} {bytes : List ℕ} (given : Answer) → MemoryPromise lent before bytes given after → numberOf given ≡ 0
     → (r : Report) × (given ≡ answer.Accepted r)
 accepted-zero (answer.Accepted r) promise e = (r, refl)
 accepted-zero (answer.Refused n) promise e = absurd (promise .never-zero (ap answer.Refused e))

@@ -1,14 +1,18 @@
--- COUNTS AS A LOOP MAKES THEM, one number with each round. Assumes nothing.
+-- COUNTS AS A LOOP MAKES THEM, one number with each round; and of two tests that never pass together. Assumes nothing.
 use mathlib.Core.Path.{_≡_, refl, sym, ap, _∙_}
-use mathlib.Core.Bool.{Bool, true, false, cond}
+use mathlib.Core.Bool.{Bool, true, false, true≢false, _&&_, cond}
 use mathlib.Core.List.{List}
-use Prim.Native.Nat.{ℕ, _+_, _*_, _/_, _%_, _≤_}
+use Prim.Native.Nat.{ℕ, zero, suc, _+_, _*_, _/_, _%_, _≤_}
+use native.Mathlib.Decide.{ℕ-discrete}
 use native.Mathlib.Numerals.{add-one}
 use native.Mathlib.Omega.{arith}
 use lib.ListN.{getD}
 use lib.Dec.{eqb, ltb}
+use borrow.Author.Tests.{ne-eqb}
 use Rattle.model.specs.Tests.{countBelow}
-use Rattle.model.specs.Report.{open?, struck?}
+use Rattle.model.specs.Report.{open?, struck?, struckBetween, reopenedBetween}
+use Rattle.layout.specs.Places.{causeOf}
+use Rattle.layout.specs.Sizes.{slotsLength}
 
 -- the digit of a test
 digit-most : (b : Bool) {d : ℕ} → d ≡ cond b 1 0 → d ≤ 1
@@ -41,3 +45,34 @@ open-place slots i = let e : i ≡ 32 * (i / 32) + i % 32 = omega arith in ap (�
 
 pub struck-place : (slots : List ℕ) (i : ℕ) → ltb (getD slots i 0) 64 ≡ struck? slots (i / 32) (i % 32)
 struck-place slots i = let e : i ≡ 32 * (i / 32) + i % 32 = omega arith in ap (λ (j : ℕ). ltb (getD slots j 0) 64) e
+
+-- TWO TESTS THAT NEVER PASS TOGETHER pass no more often than either is made
+count-apart : (n : ℕ) (f g : ℕ → Bool) → ((i : ℕ) → f i && g i ≡ false) → countBelow n f + countBelow n g ≤ n
+count-apart zero f g apart = omega arith
+count-apart (suc n) f g apart = go (f n) (g n) (apart n) (count-apart n f g apart)
+  where
+    go : (a b : Bool) → a && b ≡ false → countBelow n f + countBelow n g ≤ n → countBelow n f + cond a 1 0 + (countBelow n g + cond b 1 0) ≤ suc n
+    go true true e h = absurd (true≢false e)
+    go true false e h = omega arith
+    go false true e h = omega arith
+    go false false e h = omega arith
+
+-- no byte is open and a cause, so no slot is struck and reopened at once
+never-both : (x : ℕ) → eqb x 255 && ltb x 64 ≡ false
+never-both x = go (ℕ-discrete x 255)
+  where
+    go : Dec (x ≡ 255) → eqb x 255 && ltb x 64 ≡ false
+    go (yes e) = rw e refl
+    go (no ne) = rw (ne-eqb x 255 ne) refl
+
+pub changes-few : (before after : List ℕ) → struckBetween before after + reopenedBetween before after ≤ slotsLength
+changes-few before after =
+    count-apart slotsLength (λ i. open? before (i / 32) (i % 32) && struck? after (i / 32) (i % 32)) (λ i. struck? before (i / 32) (i % 32) && open? after (i / 32) (i % 32))
+    (λ i. go (open? before (i / 32) (i % 32)) (struck? after (i / 32) (i % 32)) (struck? before (i / 32) (i % 32)) (open? after (i / 32) (i % 32))
+    (never-both (causeOf before (i / 32) (i % 32))))
+  where
+    go : (p q r t : Bool) → p && r ≡ false → (p && q) && (r && t) ≡ false
+    go false q r t e = refl
+    go true false r t e = refl
+    go true true true t e = absurd (true≢false e)
+    go true true false t e = refl

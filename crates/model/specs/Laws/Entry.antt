@@ -17,11 +17,11 @@ use Rattle.model.specs.declared.command.Read.the-variants as found
 use Rattle.model.specs.declared.command.Decoded.{Decoded}
 use Rattle.model.specs.Commands.{isKind, bodySize, commandAt, countsAt, without, readAt}
 use Rattle.model.specs.Ledger.{Ledger, lentConditions, formConditions, ownConditions, kindConditions, earlyConditions, refusal, obey, step}
-use Rattle.model.specs.Representation.{Represents}
-use Rattle.model.specs.Promise.{valuesAt, reportValues, ReportsOf, Answered, Obeyed, KindPromise, BoardMade, MemoryPromise, Promise}
+use Rattle.model.specs.Marks.{RepresentsMarked, LeavesMarksOf}
+use Rattle.model.specs.Promise.{valuesAt, reportValues, ReportsOf, Answered, ObeyedMarked, MarkedPromise, BoardMade, MemoryPromise, Promise}
 use Rattle.model.specs.Laws.Refusals.{first-stands, rest-decides}
-use Rattle.layout.specs.Memory.{State, Whole, lentWith}
-use Rattle.layout.specs.Sizes.{CommandLent, badLent?, badTable?}
+use Rattle.layout.specs.Memory.{MarkedState, Whole, lentWith}
+use Rattle.layout.specs.Sizes.{CommandLent, badBuffers?, badTable?}
 use Rattle.model.specs.Refusals.{firstOf, isRefusal}
 use Rattle.model.specs.Numbers as refused
 
@@ -48,18 +48,18 @@ read-number s at k n = go (leb (length s) at) (isKind (getD s at 0)) (leb (at + 
 
 -- the refusals by lengths and by form, as the entry gives them
 module _ (lent : CommandLent) (bytes : List ℕ) where
-  early-lengths : badLent? (lent .buffers) ≡ true → firstOf (earlyConditions lent bytes) ≡ refused.bufferLength
+  early-lengths : badBuffers? (lent .buffers) (lent .marks) ≡ true → firstOf (earlyConditions lent bytes) ≡ refused.bufferLength
   early-lengths bad = rw bad refl
 
-  early-table : badLent? (lent .buffers) ≡ false → badTable? lent ≡ true → firstOf (earlyConditions lent bytes) ≡ refused.tableLength
+  early-table : badBuffers? (lent .buffers) (lent .marks) ≡ false → badTable? lent ≡ true → firstOf (earlyConditions lent bytes) ≡ refused.tableLength
   early-table good bad = rw (good, bad) refl
 
-  early-form : badLent? (lent .buffers) ≡ false → badTable? lent ≡ false
+  early-form : badBuffers? (lent .buffers) (lent .marks) ≡ false → badTable? lent ≡ false
       → firstOf (earlyConditions lent bytes) ≡ firstOf (formConditions (readAt bytes 0 .read) (ltb (readAt bytes 0 .next) (length bytes)))
   early-form good right = rw (good, right) refl
 
 -- REFUSED FOR LENGTHS OR FORM
-refused-promise : (lent : CommandLent) (s : State) (bytes : List ℕ) (n : ℕ) → T (isRefusal n) → firstOf (earlyConditions lent bytes) ≡ n
+refused-promise : (lent : CommandLent) (s : MarkedState) (bytes : List ℕ) (n : ℕ) → T (isRefusal n) → firstOf (earlyConditions lent bytes) ≡ n
     → MemoryPromise lent s bytes (answer.Refused n) s
 refused-promise lent s bytes zero t e = absurd t
 refused-promise lent s bytes (suc n) t e =
@@ -68,6 +68,7 @@ refused-promise lent s bytes (suc n) t e =
       refused = λ m d. refl;
       never-zero = λ d. let z : suc n ≡ 0 = cc in absurd (omega arith);
       made = λ d. absurd (omega (arith, e, d));
+      marks = λ d. absurd (omega (arith, d));
       answered = λ L shape rep. answered L rep;
     }
   where
@@ -77,26 +78,26 @@ refused-promise lent s bytes (suc n) t e =
     alone : (L : Ledger) → step L lent bytes ≡ L
     alone L = ap (λ (m : ℕ). obey m L (readAt bytes 0 .read) (readAt bytes 0 .counts)) (whole L)
 
-    answered : (L : Ledger) → Represents L s → Answered lent L s bytes (answer.Refused (suc n)) s
+    answered : (L : Ledger) → RepresentsMarked L s → Answered lent L s bytes (answer.Refused (suc n)) s
     answered L rep =
         record {
           report = record { struck = 0; reopened = 0; touched = 0 };
           number = sym (whole L);
           values = sym (ap (λ (m : ℕ). valuesAt m (0 ∷ 0 ∷ 0 ∷ [])) (whole L));
           reported = λ d. absurd (omega (arith, whole L, d));
-          represents = subst (λ (K : Ledger). Represents K s) (sym (alone L)) rep;
+          represents = subst (λ (K : Ledger). RepresentsMarked K s) (sym (alone L)) rep;
         }
 
 -- the five refusals that the entry gives by itself, as it comes upon them
-module _ (lent : CommandLent) (s : State) (bytes : List ℕ) where
-  pub refused-lengths : badLent? (lent .buffers) ≡ true → MemoryPromise lent s bytes (answer.Refused refused.bufferLength) s
+module _ (lent : CommandLent) (s : MarkedState) (bytes : List ℕ) where
+  pub refused-lengths : badBuffers? (lent .buffers) (lent .marks) ≡ true → MemoryPromise lent s bytes (answer.Refused refused.bufferLength) s
   refused-lengths bad = refused-promise lent s bytes refused.bufferLength tt (early-lengths lent bytes bad)
 
-  pub refused-table : badLent? (lent .buffers) ≡ false → badTable? lent ≡ true → MemoryPromise lent s bytes (answer.Refused refused.tableLength) s
+  pub refused-table : badBuffers? (lent .buffers) (lent .marks) ≡ false → badTable? lent ≡ true → MemoryPromise lent s bytes (answer.Refused refused.tableLength) s
   refused-table good bad = refused-promise lent s bytes refused.tableLength tt (early-table lent bytes good bad)
 
   -- of d, which was read at the first byte
-  module _ (good : badLent? (lent .buffers) ≡ false) (right : badTable? lent ≡ false) (d : Decoded) (decoded : d ≡ readAt bytes 0) where
+  module _ (good : badBuffers? (lent .buffers) (lent .marks) ≡ false) (right : badTable? lent ≡ false) (d : Decoded) (decoded : d ≡ readAt bytes 0) where
     early-read : (r : Read) → d .read ≡ r → firstOf (earlyConditions lent bytes) ≡ firstOf (formConditions r (ltb (d .next) (length bytes)))
     early-read r is =
         early-form lent bytes good right
@@ -119,7 +120,7 @@ module _ (lent : CommandLent) (s : State) (bytes : List ℕ) where
       well-formed whole = early-read (found.Command c) is ∙ rw (le-ltb (d .next) (length bytes) whole) refl
 
 -- LEFT TO THE KIND
-module _ (lent : CommandLent) (s : State) (bytes : List ℕ) (c : Command) (given : Answer) (after : State) (is : readAt bytes 0 .read ≡ found.Command c)
+module _ (lent : CommandLent) (s : MarkedState) (bytes : List ℕ) (c : Command) (given : Answer) (after : MarkedState) (is : readAt bytes 0 .read ≡ found.Command c)
     (passes : firstOf (earlyConditions lent bytes) ≡ 0) where
   own : (L : Ledger) → refusal L lent bytes ≡ firstOf (kindConditions L c (readAt bytes 0 .counts))
   own L =
@@ -129,7 +130,7 @@ module _ (lent : CommandLent) (s : State) (bytes : List ℕ) (c : Command) (give
       early : Read → List (Bool × ℕ)
       early r = lentConditions lent ++ formConditions r (ltb (readAt bytes 0 .next) (length bytes))
 
-  pub kind-promise : KindPromise s c (readAt bytes 0 .counts) given after → (c ≡ kind.Board → BoardMade (readAt bytes 0 .counts) given after)
+  pub kind-promise : MarkedPromise s c (readAt bytes 0 .counts) given after → (c ≡ kind.Board → BoardMade (readAt bytes 0 .counts) given (after .state))
       → MemoryPromise lent s bytes given after
   kind-promise promise made =
       record {
@@ -137,17 +138,18 @@ module _ (lent : CommandLent) (s : State) (bytes : List ℕ) (c : Command) (give
         refused = promise .refused;
         never-zero = promise .never-zero;
         made = λ d e. made (let same : c ≡ kind.Board = cc in same);
+        marks = λ z. subst (λ (r : Read). LeavesMarksOf r s after) (sym is) (promise .marks z);
         answered = λ L shape rep. answered L (promise .obeyed L shape rep);
       }
     where
-      answered : (L : Ledger) → Obeyed L s c (readAt bytes 0 .counts) given after → Answered lent L s bytes given after
+      answered : (L : Ledger) → ObeyedMarked L s c (readAt bytes 0 .counts) given after → Answered lent L s bytes given after
       answered L o =
           record {
             report = o .report;
             number = o .number ∙ sym (own L);
             values = o .values ∙ sym (ap (λ (m : ℕ). valuesAt m (reportValues (o .report))) (own L));
-            reported = λ e. subst (λ (r : Read). ReportsOf r s after (o .report)) (sym is) (o .reported (sym (own L) ∙ e));
-            represents = subst (λ (K : Ledger). Represents K after) (sym (stepped L)) (o .represents);
+            reported = λ e. subst (λ (r : Read). ReportsOf r (s .state) (after .state) (o .report)) (sym is) (o .reported (sym (own L) ∙ e));
+            represents = subst (λ (K : Ledger). RepresentsMarked K after) (sym (stepped L)) (o .represents);
           }
         where
           stepped : (L : Ledger) → step L lent bytes ≡ obey (firstOf (kindConditions L c (readAt bytes 0 .counts))) L (found.Command c) (readAt bytes 0 .counts)
@@ -156,7 +158,7 @@ module _ (lent : CommandLent) (s : State) (bytes : List ℕ) (c : Command) (give
               ∙ ap (λ (r : Read). obey (firstOf (kindConditions L c (readAt bytes 0 .counts))) L r (readAt bytes 0 .counts)) is
 
 -- THE ENTRY'S PROMISE, of the table too. Refused, everything is as it was
-pub refused-whole : (w : Whole) (bytes : List ℕ) (n : ℕ) → MemoryPromise (lentWith w) (w .state) bytes (answer.Refused n) (w .state)
+pub refused-whole : (w : Whole) (bytes : List ℕ) (n : ℕ) → MemoryPromise (lentWith w) (w .marked) bytes (answer.Refused n) (w .marked)
     → Promise w bytes (answer.Refused n) w
 refused-whole w bytes n promise =
-    record { state = promise; table-kept = λ m e. refl; current = λ z. absurd (promise .never-zero (ap answer.Refused z)) }
+    record { memory = promise; table-kept = λ m e. refl; current = λ z. absurd (promise .never-zero (ap answer.Refused z)) }

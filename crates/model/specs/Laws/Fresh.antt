@@ -4,22 +4,25 @@ use mathlib.Core.Path.{_≡_, refl, sym, ap, _∙_}
 use mathlib.Core.List.{List, []}
 use mathlib.Core.Logic.{_⊎_, inl, inr}
 use mathlib.Core.Option.{none}
-use Prim.Native.Nat.{ℕ, _+_, _*_, _<_}
+use Prim.Native.Nat.{ℕ, zero, suc, _+_, _*_, _<_}
 use native.Mathlib.Omega.{arith}
 use lib.ListN.{length, getD, replicate}
 use Rattle.layout.specs.declared.value.Heads.{Heads}
 use Rattle.model.specs.Board.{Rule, OnBoard, Shape, callAt, slotAt}
 use Rattle.model.specs.Records.{Recorded}
-use Rattle.model.specs.Ledger.{bare, fresh}
+use Rattle.model.specs.Ledger.{Ledger, bare, noneKept, fresh, keptUnder}
 use Rattle.model.specs.Representation.{ruleOr, ruleAt, RuleHeld, Headed, RowBytes, Stored, Represents}
+use Rattle.model.specs.Marks.{MarkHeld, RepresentsMarked}
 use Rattle.model.specs.Laws.Tests.{<?}
 use Rattle.model.specs.Laws.Theory.{free-call}
 use Rattle.model.specs.Laws.Shapes.{none-there, bare-none, shape-fresh}
 use Rattle.layout.specs.Places.{causeOf, killerOf}
 use Rattle.layout.specs.Value.{freshHeads, emptyRule}
-use Rattle.layout.specs.Memory.{freshState, Filled}
+use Rattle.layout.specs.Names.{noMark, noNames, markUnder}
+use Rattle.layout.specs.Laws.Names.{no-names-size, none-under}
+use Rattle.layout.specs.Memory.{freshState, freshMarkedState, Filled}
 use Rattle.layout.specs.Laws.Memory.{filled}
-use Rattle.layout.specs.Sizes.{killersLength, rowsLength, slotsLength}
+use Rattle.layout.specs.Sizes.{killersLength, rowsLength, slotsLength, marksLength}
 
 module _ (ns : List ℕ) (shape : Shape (bare ns)) where
   no-rule : (p : ℕ) → ruleAt (bare ns) p ≡ ruleOr none
@@ -102,4 +105,20 @@ fresh-represents =
           (bare-headed [] (shape-fresh .board) freshHeads refl (λ c lc. filled 32 0 .all c lc) (filled 64 0) (filled 256 255) (filled 64 0))
           (filled rowsLength 255) (filled killersLength 255) (filled slotsLength 254 .size);
       drafted = record { number = refl; rule = empty-held };
+    }
+
+-- and with the marks, of which nothing is kept, whatever their bytes
+none-held : (L : Ledger) → L .marks ≡ noneKept → (names marks : List ℕ) (name : ℕ) → markUnder names name ≡ noMark → name < 2
+    → MarkHeld (keptUnder L name) (markUnder names name) marks name
+none-held L unkept names marks zero e known = rw unkept e
+none-held L unkept names marks (suc zero) e known = rw unkept e
+none-held L unkept names marks (suc (suc name)) e known = absurd (omega arith)
+
+pub fresh-marked : (marks : List ℕ) → length marks ≡ marksLength → RepresentsMarked fresh (freshMarkedState marks)
+fresh-marked marks size =
+    record {
+      state = fresh-represents;
+      names-size = no-names-size;
+      marks-size = size;
+      held = λ name known. none-held fresh refl noNames marks name (none-under name known) known;
     }

@@ -16,18 +16,19 @@ use Rattle.model.specs.Records.{Recorded}
 use Rattle.model.specs.Commands.{readAt}
 use Rattle.model.specs.Ledger.{Ledger, LedgerShape, Member, fresh, lentConditions, formConditions, earlyConditions, ownConditions, refusal, obey, step, stepBy, ledgerAfter, run, lengths}
 use Rattle.model.specs.Representation.{Represents}
+use Rattle.model.specs.Marks.{RepresentsMarked}
 use Rattle.model.specs.Summary.{Current}
 use Rattle.model.specs.Promise.{Answered, Promise}
-use Rattle.model.specs.Lists.{Runs, done, then, standing, standingState, Handed, Entered, Demand3, Demand3Two}
+use Rattle.model.specs.Lists.{Runs, done, then, standing, standingMarked, Handed, Entered, After, Demand3, Demand3Two}
 use Rattle.model.specs.Laws.Theory.{open-viable, struck-caused, row-records, no-ring, escape-from-all, plan-open, viable-mono}
 use Rattle.model.specs.Laws.Answers.{refused-by}
 use Rattle.model.specs.Laws.Refusals.{none-holds, first-stands}
 use Rattle.model.specs.Laws.Shapes.{lent-right, shape-step, shape-fresh}
-use Rattle.model.specs.Laws.Fresh.{fresh-represents}
+use Rattle.model.specs.Laws.Fresh.{fresh-marked}
 use Rattle.model.specs.Laws.Summary.{fresh-current}
 use Rattle.layout.specs.Places.{causeOf, killerOf}
-use Rattle.layout.specs.Memory.{State, Whole, wholeOf, lentWith, freshWhole}
-use Rattle.layout.specs.Sizes.{CommandLent}
+use Rattle.layout.specs.Memory.{State, MarkedState, Whole, stateOf, markedOf, wholeOf, lentWith, freshWhole}
+use Rattle.layout.specs.Sizes.{CommandLent, marksLength}
 use Rattle.model.specs.Refusals.{firstOf}
 use Rattle.model.specs.Numbers as refused
 
@@ -61,34 +62,37 @@ states-demand L L′ s s′ shape rep shape′ rep′ more c t o =
 
 -- OVER ANY LISTS: states S of which `memory` shows the value and the buffers, members M with their effect on the ledger, and any step that keeps the
 -- state a ledger's
-module _ (S M : Type 0) (memory : S → State) (next : Ledger → M → Ledger) (Step : M → S → S → Type 0) (Is : Ledger → S → Type 0) (start : S)
+module _ (S M : Type 0) (memory : S → State) (next : Ledger → M → Ledger) (Step : M → S → S → Type 0) (Is : Ledger → S → Type 0)
     (means : (L : Ledger) (s : S) → Is L s → LedgerShape L × Represents L (memory s))
-    (starts : Is fresh start)
     (keeps : (L : Ledger) (m : M) (s s′ : S) → Is L s → Step m s s′ → Is (next L m) s′) where
   pub runs-keep : (L : Ledger) {s s′ : S} {ms : List M} → Is L s → Runs S M Step s ms s′ → Is (ledgerAfter next L ms) s′
   runs-keep L is done = is
   runs-keep L {s} is (then {s′ = t} {m = m} st rest) = runs-keep (next L m) (keeps L m s t is st) rest
 
-  pub every-run : (ms : List M) (s : S) → Runs S M Step start ms s → Demand3 (ledgerAfter next fresh ms .board) (memory s)
-  every-run ms s ran = let h = means (ledgerAfter next fresh ms) s (runs-keep fresh starts ran) in state-demand (ledgerAfter next fresh ms) (memory s) (h .0) (h .1)
-
-  pub every-two-runs : (ms ms′ : List M) (s s′ : S) → Runs S M Step start ms s → Runs S M Step start ms′ s′
-      → Demand3Two (ledgerAfter next fresh ms .board) (memory s) (ledgerAfter next fresh ms′ .board) (memory s′)
-  every-two-runs ms ms′ s s′ ran ran′ =
+  -- on a start that is the fresh ledger's
+  pub every-run : (start : S) → Is fresh start → (ms : List M) (s : S) → Runs S M Step start ms s → Demand3 (ledgerAfter next fresh ms .board) (memory s)
+  every-run start starts ms s ran =
       let h = means (ledgerAfter next fresh ms) s (runs-keep fresh starts ran) in
-      let h′ = means (ledgerAfter next fresh ms′) s′ (runs-keep fresh starts ran′) in
+      state-demand (ledgerAfter next fresh ms) (memory s) (h .0) (h .1)
+
+  pub every-two-runs : (start start′ : S) → Is fresh start → Is fresh start′ → (ms ms′ : List M) (s s′ : S) → Runs S M Step start ms s → Runs S M Step start′ ms′ s′
+      → Demand3Two (ledgerAfter next fresh ms .board) (memory s) (ledgerAfter next fresh ms′ .board) (memory s′)
+  every-two-runs start start′ starts starts′ ms ms′ s s′ ran ran′ =
+      let h = means (ledgerAfter next fresh ms) s (runs-keep fresh starts ran) in
+      let h′ = means (ledgerAfter next fresh ms′) s′ (runs-keep fresh starts′ ran′) in
       states-demand (ledgerAfter next fresh ms) (ledgerAfter next fresh ms′) (memory s) (memory s′) (h .0) (h .1) (h′ .0) (h′ .1)
 
--- AT RAW BYTES. A whole is a ledger's: the value and the buffers represent it, and the table is current on its board
+-- AT RAW BYTES. A whole is a ledger's: the value, the buffers and the marks represent it, and the table is current on its board
 abbrev pub IsOf : Ledger → Whole → Type 0
-IsOf L w = LedgerShape L × Represents L (w .state) × Current (L .board) (w .table)
+IsOf L w = LedgerShape L × RepresentsMarked L (w .marked) × Current (L .board) (w .table)
 
 -- its lengths are right
 pub is-lengths : (L : Ledger) (w : Whole) → IsOf L w → lentWith w ≡ lengths
 is-lengths L w is =
-    let r = is .1 .stored .row-bytes .rows-size in
-    let k = is .1 .stored .killers-size in
-    let b = is .1 .stored .slots-size in
+    let r = is .1 .state .stored .row-bytes .rows-size in
+    let k = is .1 .state .stored .killers-size in
+    let b = is .1 .state .stored .slots-size in
+    let m = is .1 .marks-size in
     let n = is .2 .size in
     cc
 
@@ -99,11 +103,11 @@ promise-keeps L s s′ bytes given is promise = (shape, answered .represents, go
     shape : LedgerShape (step L (lentWith s) bytes)
     shape = shape-step L (lentWith s) bytes (is .0)
 
-    answered : Answered (lentWith s) L (s .state) bytes given (s′ .state)
-    answered = promise .state .answered L (is .0) (is .1)
+    answered : Answered (lentWith s) L (s .marked) bytes given (s′ .marked)
+    answered = promise .memory .answered L (is .0) (is .1)
 
     go : (n : ℕ) → refusal L (lentWith s) bytes ≡ n → Current (step L (lentWith s) bytes .board) (s′ .table)
-    go zero e = promise .current (answered .number ∙ e) (step L (lentWith s) bytes) shape (answered .represents)
+    go zero e = promise .current (answered .number ∙ e) (step L (lentWith s) bytes) shape (answered .represents .state)
     go (suc n) e =
         let alone : step L (lentWith s) bytes ≡ L = ap (λ (m : ℕ). obey m L (readAt bytes 0 .read) (readAt bytes 0 .counts)) e in
         let kept = promise .table-kept (suc n) (refused-by given n (answered .number ∙ e)) in
@@ -122,50 +126,54 @@ standing-own : {A : Type 0} (own handed left : List A) → length handed ≡ len
 standing-own own handed left e = rw (eq-eqb (length handed) (length own) e) refl
 
 -- two wholes with the same parts are one
-whole-same : (a b : Whole) → a .state .value ≡ b .state .value → a .state .rows ≡ b .state .rows → a .state .killers ≡ b .state .killers → a .state .slots ≡ b .state .slots
+whole-same : (a b : Whole) → a .marked .state .value ≡ b .marked .state .value → a .marked .names ≡ b .marked .names → a .marked .state .rows ≡ b .marked .state .rows
+    → a .marked .state .killers ≡ b .marked .state .killers → a .marked .state .slots ≡ b .marked .state .slots → a .marked .marks ≡ b .marked .marks
     → a .table ≡ b .table → a ≡ b
-whole-same a b v r k s t =
+whole-same a b v names r k s m t =
     let e : _≡_ {A = Whole}
-    (wholeOf (record { value = a .state .value; rows = a .state .rows; killers = a .state .killers; slots = a .state .slots }) (a .table))
-    (wholeOf (record { value = b .state .value; rows = b .state .rows; killers = b .state .killers; slots = b .state .slots }) (b .table)) = cc in
+    (wholeOf (markedOf (stateOf (a .marked .state .value) (a .marked .state .rows) (a .marked .state .killers) (a .marked .state .slots)) (a .marked .names) (a .marked .marks)) (a .table))
+    (wholeOf (markedOf (stateOf (b .marked .state .value) (b .marked .state .rows) (b .marked .state .killers) (b .marked .state .slots)) (b .marked .names) (b .marked .marks)) (b .table)) = cc in
     e
 
 -- what stands after a member
 abbrev stood : {m : Member} {s s′ : Whole} → Entered m s s′ → Whole
-stood {m} {s} t = wholeOf (standingState (s .state) (t .handed .state) (t .left .state)) (standing (s .table) (t .handed .table) (t .left .table))
+stood {m} {s} t = wholeOf (standingMarked (s .marked) (t .handed .marked) (t .left .marked)) (standing (s .table) (t .handed .table) (t .left .table))
 
 -- A MEMBER HANDED A BUFFER OR A TABLE OF ANOTHER LENGTH leaves everything as it was: the promise says refused, 1 or 22, and that a refusal changes nothing
 pub bad-lengths-stand : (m : Member) (s s′ : Whole) → Entered m s s′ → (n : ℕ) → firstOf (lentConditions (m .lent)) ≡ suc n → s′ ≡ s
 bad-lengths-stand m s s′ t n bad =
     let form = formConditions (readAt (m .bytes) 0 .read) (ltb (readAt (m .bytes) 0 .next) (length (m .bytes))) in
     let early = first-stands (lentConditions (lentWith (t .handed))) form n (ap (λ (l : CommandLent). firstOf (lentConditions l)) (t .lengths) ∙ bad) in
-    let refused : t .given ≡ answer.Refused (suc n) = refused-by (t .given) n (t .promise .state .early n early) in
-    let same : t .left .state ≡ t .handed .state = t .promise .state .refused (suc n) refused in
+    let refused : t .given ≡ answer.Refused (suc n) = refused-by (t .given) n (t .promise .memory .early n early) in
+    let same : t .left .marked ≡ t .handed .marked = t .promise .memory .refused (suc n) refused in
     let kept : t .left .table ≡ t .handed .table = t .promise .table-kept (suc n) refused in
     t .stands
-    ∙ whole-same (stood t) s (ap (λ (x : State). x .value) same ∙ t .value)
-    (rw same (standing-same (s .state .rows) (t .handed .state .rows) (t .rows)))
-    (rw same (standing-same (s .state .killers) (t .handed .state .killers) (t .killers)))
-    (rw same (standing-same (s .state .slots) (t .handed .state .slots) (t .slots)))
+    ∙ whole-same (stood t) s (ap (λ (x : MarkedState). x .state .value) same ∙ t .value) (ap (λ (x : MarkedState). x .names) same ∙ t .names)
+    (rw same (standing-same (s .marked .state .rows) (t .handed .marked .state .rows) (t .rows)))
+    (rw same (standing-same (s .marked .state .killers) (t .handed .marked .state .killers) (t .killers)))
+    (rw same (standing-same (s .marked .state .slots) (t .handed .marked .state .slots) (t .slots)))
+    (rw same (standing-same (s .marked .marks) (t .handed .marked .marks) (t .marks)))
     (rw kept (standing-same (s .table) (t .handed .table) (t .table)))
 
 -- A MEMBER HANDED THE RIGHT LENGTHS is handed what stands, and what it leaves stands after it
 module _ (m : Member) (s s′ : Whole) (t : Entered m s s′) (own : lentWith (t .handed) ≡ lentWith s) where
   handed-own : t .handed ≡ s
   handed-own =
-      whole-same (t .handed) s (t .value)
+      whole-same (t .handed) s (t .value) (t .names)
       (t .rows (ap (λ (l : CommandLent). l .buffers .rows) own))
       (t .killers (ap (λ (l : CommandLent). l .buffers .killers) own))
       (t .slots (ap (λ (l : CommandLent). l .buffers .slots) own))
+      (t .marks (ap (λ (l : CommandLent). l .marks) own))
       (t .table (ap (λ (l : CommandLent). l .table) own))
 
   left-stands : s′ ≡ t .left
   left-stands =
       t .stands
-      ∙ whole-same (stood t) (t .left) refl
-      (standing-own (s .state .rows) (t .handed .state .rows) (t .left .state .rows) (ap (λ (l : CommandLent). l .buffers .rows) own))
-      (standing-own (s .state .killers) (t .handed .state .killers) (t .left .state .killers) (ap (λ (l : CommandLent). l .buffers .killers) own))
-      (standing-own (s .state .slots) (t .handed .state .slots) (t .left .state .slots) (ap (λ (l : CommandLent). l .buffers .slots) own))
+      ∙ whole-same (stood t) (t .left) refl refl
+      (standing-own (s .marked .state .rows) (t .handed .marked .state .rows) (t .left .marked .state .rows) (ap (λ (l : CommandLent). l .buffers .rows) own))
+      (standing-own (s .marked .state .killers) (t .handed .marked .state .killers) (t .left .marked .state .killers) (ap (λ (l : CommandLent). l .buffers .killers) own))
+      (standing-own (s .marked .state .slots) (t .handed .marked .state .slots) (t .left .marked .state .slots) (ap (λ (l : CommandLent). l .buffers .slots) own))
+      (standing-own (s .marked .marks) (t .handed .marked .marks) (t .left .marked .marks) (ap (λ (l : CommandLent). l .marks) own))
       (standing-own (s .table) (t .handed .table) (t .left .table) (ap (λ (l : CommandLent). l .table) own))
 
   pub own-promise : Promise s (m .bytes) (t .given) s′
@@ -190,20 +198,28 @@ entered-keeps L m s s′ is t = go (firstOf (lentConditions (m .lent))) refl
         let right : m .lent ≡ lentWith s = lent-right (m .lent) (passes refused.bufferLength) (passes refused.tableLength) ∙ sym (is-lengths L s is) in
         subst (λ (l : CommandLent). IsOf (step L l bytes) s′) (sym right) (promise-keeps L s s′ bytes (t .given) is (own-promise m s s′ t (t .lengths ∙ right)))
 
-fresh-whole-is : IsOf fresh freshWhole
-fresh-whole-is = (shape-fresh, fresh-represents, fresh-current)
+fresh-whole-is : (marks : List ℕ) → length marks ≡ marksLength → IsOf fresh (freshWhole marks)
+fresh-whole-is marks size = (shape-fresh, fresh-marked marks size, fresh-current)
+
+-- what such a whole shows
+shown : (L : Ledger) (s : Whole) → IsOf L s → LedgerShape L × Represents L (s .marked .state)
+shown L s is = (is .0, is .1 .state)
 
 -- DEMAND 3 FOR EVERY LIST OF RAW COMMANDS, with any lengths and refused ones among them, and for every two
-pub demand-3 : (ms : List Member) (s : Whole) → Runs Whole Member Entered freshWhole ms s → Demand3 (run fresh ms .board) (s .state)
-demand-3 = every-run Whole Member (λ s. s .state) stepBy Entered IsOf freshWhole (λ L s is. (is .0, is .1)) fresh-whole-is entered-keeps
+pub demand-3 : {first : List ℕ} (ms : List Member) (s : Whole) → After first ms s → Demand3 (run fresh ms .board) (s .marked .state)
+demand-3 {first} ms s after =
+    every-run Whole Member (λ s. s .marked .state) stepBy Entered IsOf shown entered-keeps (freshWhole first) (fresh-whole-is first (after .size)) ms s (after .ran)
 
-pub demand-3-two : (ms ms′ : List Member) (s s′ : Whole) → Runs Whole Member Entered freshWhole ms s → Runs Whole Member Entered freshWhole ms′ s′
-    → Demand3Two (run fresh ms .board) (s .state) (run fresh ms′ .board) (s′ .state)
-demand-3-two = every-two-runs Whole Member (λ s. s .state) stepBy Entered IsOf freshWhole (λ L s is. (is .0, is .1)) fresh-whole-is entered-keeps
+pub demand-3-two : {first first′ : List ℕ} (ms ms′ : List Member) (s s′ : Whole) → After first ms s → After first′ ms′ s′
+    → Demand3Two (run fresh ms .board) (s .marked .state) (run fresh ms′ .board) (s′ .marked .state)
+demand-3-two {first} {first′} ms ms′ s s′ after after′ =
+    every-two-runs Whole Member (λ s. s .marked .state) stepBy Entered IsOf shown entered-keeps (freshWhole first) (freshWhole first′)
+    (fresh-whole-is first (after .size)) (fresh-whole-is first′ (after′ .size)) ms ms′ s s′ (after .ran) (after′ .ran)
 
--- and what stands after a list is the ledger's, the shape and the table with it
-pub runs-represent : (ms : List Member) (s : Whole) → Runs Whole Member Entered freshWhole ms s → IsOf (run fresh ms) s
-runs-represent ms s ran = runs-keep Whole Member (λ s. s .state) stepBy Entered IsOf freshWhole (λ L s is. (is .0, is .1)) fresh-whole-is entered-keeps fresh fresh-whole-is ran
+-- and what stands after a list is the ledger's, the shape, the marks and the table with it
+pub runs-represent : {first : List ℕ} (ms : List Member) (s : Whole) → After first ms s → IsOf (run fresh ms) s
+runs-represent {first} ms s after =
+    runs-keep Whole Member (λ s. s .marked .state) stepBy Entered IsOf shown entered-keeps fresh (fresh-whole-is first (after .size)) (after .ran)
 
-pub table-current : (ms : List Member) (s : Whole) → Runs Whole Member Entered freshWhole ms s → Current (run fresh ms .board) (s .table)
-table-current ms s ran = runs-represent ms s ran .2
+pub table-current : {first : List ℕ} (ms : List Member) (s : Whole) → After first ms s → Current (run fresh ms .board) (s .table)
+table-current ms s after = runs-represent ms s after .2

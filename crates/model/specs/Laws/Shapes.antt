@@ -22,11 +22,11 @@ use Rattle.model.specs.declared.command.Read.the-variants as found
 use Rattle.model.specs.Board.{Rule, Board, callAt, slotAt, InForce, GoodRule, Shape}
 use Rattle.model.specs.Tests.{some?, every?, isNone}
 use Rattle.model.specs.Commands.{isKind, bodySize, commandAt, without, readAt, scopeOf, slotsOf}
-use Rattle.model.specs.Ledger.{NumberedRule, Ledger, LedgerShape, Member, bare, noneKept, fresh, draftOr, lentConditions, kindConditions, formConditions, ownConditions, refusal, upToZero, withRule, effect, obey, step, run, lengths}
+use Rattle.model.specs.Ledger.{NumberedRule, Ledger, LedgerShape, Member, bare, noneKept, fresh, keptUnder, keptOr, draftOr, lentConditions, kindConditions, formConditions, ownConditions, refusal, upToZero, withRule, effect, obey, step, run, lengths}
 use Rattle.model.specs.Gaps.{ruleOfGap}
 use Rattle.model.specs.Laws.Gaps.{gap-good}
 use Rattle.model.specs.Laws.Tests.{or-false, none-passes, →every, T→, →T, none-some}
-use Rattle.layout.specs.Sizes.{Lent, CommandLent, badLent?, badTable?, killersLength, rowsLength, slotsLength, recordsLength}
+use Rattle.layout.specs.Sizes.{Lent, CommandLent, badLent?, badBuffers?, badTable?, killersLength, rowsLength, slotsLength, marksLength, recordsLength}
 use Rattle.tables.specs.Laws.Facts.{true-false}
 use Rattle.model.specs.Refusals.{firstOf, conditionOf}
 use Rattle.model.specs.Numbers as refused
@@ -40,12 +40,23 @@ lent-sizes lent e =
     (eqb-true (lent .rows) rowsLength (two .0), eqb-true (lent .killers) killersLength (two .1), eqb-true (lent .slots) slotsLength (all .1))
 
 -- and those of all that is lent with a command
-pub lent-right : (lent : CommandLent) → badLent? (lent .buffers) ≡ false → badTable? lent ≡ false → lent ≡ lengths
+pub marks-size : (lent : Lent) (n : ℕ) → badBuffers? lent n ≡ false → (badLent? lent ≡ false) × (n ≡ marksLength)
+marks-size lent n e =
+    let apart = or-false (badLent? lent) (not (eqb n marksLength)) e in
+    (apart .0, eqb-true n marksLength (not-false _ (apart .1)))
+
+pub lent-right : (lent : CommandLent) → badBuffers? (lent .buffers) (lent .marks) ≡ false → badTable? lent ≡ false → lent ≡ lengths
 lent-right lent good table =
-    let sizes = lent-sizes (lent .buffers) good in
+    let apart = marks-size (lent .buffers) (lent .marks) good in
+    let sizes = lent-sizes (lent .buffers) (apart .0) in
+    let marks = apart .1 in
     let records = eqb-true (lent .table) recordsLength (not-false _ table) in
     let all : _≡_ {A = CommandLent}
-    (record { buffers = record { rows = lent .buffers .rows; killers = lent .buffers .killers; slots = lent .buffers .slots }; table = lent .table }) lengths = cc in
+    (record {
+      buffers = record { rows = lent .buffers .rows; killers = lent .buffers .killers; slots = lent .buffers .slots };
+      marks = lent .marks;
+      table = lent .table;
+    }) lengths = cc in
     all
 
 -- a board without rules
@@ -248,6 +259,40 @@ module _ (L : Ledger) (shape : LedgerShape L) where
         marks = shape .marks;
       }
 
+  -- a board that is kept, and one that is brought back
+  keep-shape : (name : ℕ) (ns : List ℕ) → Allowed L (kind.Keep name) ns → LedgerShape (effect L (kind.Keep name) ns)
+  keep-shape name ns good =
+      record {
+        board = shape .board;
+        draft = shape .draft;
+        names = length-set (L .marks) name (some (L .board)) ∙ shape .names;
+        marks = λ other B e. go other B e (ℕ-discrete other name);
+      }
+    where
+      small : name < length (L .marks)
+      small = omega (arith, ltb-false 1 name (good refused.badName), shape .names)
+
+      go : (other : ℕ) (B : Board) → getD (set (L .marks) name (some (L .board))) other none ≡ some B → Dec (other ≡ name) → Shape B × (B .counts ≡ L .board .counts)
+      go other B e (yes same) =
+          let z : some (L .board) ≡ some B = sym (getD-set-same (L .marks) name (some (L .board)) none small) ∙ rw same at e in
+          let b : L .board ≡ B = cc in
+          rw (← b) (shape .board, refl)
+      go other B e (no apart) = shape .marks other B (sym (getD-set-other (L .marks) name other (some (L .board)) none apart) ∙ e)
+
+  back-shape : (name : ℕ) (ns : List ℕ) → Allowed L (kind.Back name) ns → LedgerShape (effect L (kind.Back name) ns)
+  back-shape name ns good = go (keptUnder L name) refl (good refused.nothingKept)
+    where
+      go : (o : Option Board) → keptUnder L name ≡ o → isNone o ≡ false → LedgerShape (record { board = keptOr o; draft = none; marks = L .marks })
+      go none e i = absurd (true≢false i)
+      go (some B) e i =
+          let own = shape .marks name B e in
+          record {
+            board = own .0;
+            draft = λ d h. none-some h;
+            names = shape .names;
+            marks = λ other K k. let kept = shape .marks other K k in (kept .0, kept .1 ∙ sym (own .1));
+          }
+
   -- a command that none of its own conditions refuses
   pub effect-shape : (c : Command) (ns : List ℕ) → length ns ≤ 32 → firstOf (kindConditions L c ns) ≡ 0 → LedgerShape (effect L c ns)
   effect-shape kind.Board ns most e = board-shape ns most (none-holds (kindConditions L kind.Board ns) tt e)
@@ -256,6 +301,8 @@ module _ (L : Ledger) (shape : LedgerShape L) where
   effect-shape kind.Post ns most e = post-shape ns (none-holds (kindConditions L kind.Post ns) tt e)
   effect-shape (kind.Retract n) ns most e = retract-shape n ns (none-holds (kindConditions L (kind.Retract n) ns) tt e)
   effect-shape (kind.Gap f) ns most e = gap-shape f ns (none-holds (kindConditions L (kind.Gap f) ns) tt e)
+  effect-shape (kind.Keep n) ns most e = keep-shape n ns (none-holds (kindConditions L (kind.Keep n) ns) tt e)
+  effect-shape (kind.Back n) ns most e = back-shape n ns (none-holds (kindConditions L (kind.Back n) ns) tt e)
 
 -- the counts beside what is read are never more than 32
 pub counts-most : (s : List ℕ) (at : ℕ) → length (readAt s at .counts) ≤ 32

@@ -79,24 +79,24 @@ module _ (x : Sample) (s : Whole) (given : Answer) (s′ : Whole) (last : Last x
   lent : lentWith s ≡ lengths
   lent = is-lengths (ledgerBefore x) s is
 
-  answered : Answered (lentWith s) (ledgerBefore x) (s .state) (x .last) given (s′ .state)
-  answered = last .promise .state .answered (ledgerBefore x) (is .0) (is .1)
+  answered : Answered (lentWith s) (ledgerBefore x) (s .marked) (x .last) given (s′ .marked)
+  answered = last .promise .memory .answered (ledgerBefore x) (is .0) (is .1)
 
   is-after : IsOf (ledgerLast x) s′
   is-after = subst (λ (l : CommandLent). IsOf (step (ledgerBefore x) l (x .last)) s′) lent (promise-keeps (ledgerBefore x) s s′ (x .last) given is (last .promise))
 
-  after : Represents (ledgerLast x) (s′ .state)
-  after = is-after .1
+  after : Represents (ledgerLast x) (s′ .marked .state)
+  after = is-after .1 .state
 
   -- a call's record is the one that the board says
   figures : (c : ℕ) → c < recordsLength → getD (s′ .table) c noSummary ≡ recordOf (ledgerLast x .board) c
   figures = is-after .2 .each
 
   -- a byte is 255 where the sample says open, and only there
-  opens : Right x → (c t : ℕ) → c < 32 → t < 32 → T (in? (x .outcome .left) c t) → causeOf (s′ .state .slots) c t ≡ 255
+  opens : Right x → (c t : ℕ) → c < 32 → t < 32 → T (in? (x .outcome .left) c t) → causeOf (s′ .marked .state .slots) c t ≡ 255
   opens right c t lc lt i = after .stored .viable c t lc lt .1 (right .viable c t .0 i)
 
-  closes : Right x → (c t : ℕ) → c < 32 → t < 32 → T (not (in? (x .outcome .left) c t)) → causeOf (s′ .state .slots) c t ≢ 255
+  closes : Right x → (c t : ℕ) → c < 32 → t < 32 → T (not (in? (x .outcome .left) c t)) → causeOf (s′ .marked .state .slots) c t ≢ 255
   closes right c t lc lt n e = T-not (in? (x .outcome .left) c t) n (right .viable c t .1 (after .stored .viable c t lc lt .0 e))
 
   -- the answer is the one that the sample's refusal decides
@@ -109,23 +109,23 @@ module _ (x : Sample) (s : Whole) (given : Answer) (s′ : Whole) (last : Last x
 
   -- a slot of the board that the sample says is closed is struck
   strikes : Right x → (c t : ℕ) → c < 32 → t < 32 → OnBoard (ledgerLast x .board) c t → T (not (in? (x .outcome .left) c t))
-      → Struck (ledgerLast x .board) (causeOf (s′ .state .slots)) c t
+      → Struck (ledgerLast x .board) (causeOf (s′ .marked .state .slots)) c t
   strikes right c t lc lt on n = (on, go (after .stored .recorded .sound .either c t on))
     where
-      go : (causeOf (s′ .state .slots) c t ≡ 255) ⊎ (causeOf (s′ .state .slots) c t < 64) → causeOf (s′ .state .slots) c t < 64
+      go : (causeOf (s′ .marked .state .slots) c t ≡ 255) ⊎ (causeOf (s′ .marked .state .slots) c t < 64) → causeOf (s′ .marked .state .slots) c t < 64
       go (inl e) = absurd (closes right c t lc lt n e)
       go (inr h) = h
 
   -- before the last command a byte is 255 where the filter finds the slot open
-  was : (c t : ℕ) → c < 32 → t < 32 → open? (s .state .slots) c t ≡ in? (openOf (ledgerBefore x .board)) c t
-  was = open-in (ledgerBefore x) (s .state) (is .1)
+  was : (c t : ℕ) → c < 32 → t < 32 → open? (s .marked .state .slots) c t ≡ in? (openOf (ledgerBefore x .board)) c t
+  was = open-in (ledgerBefore x) (s .marked .state) (is .1 .state)
 
-  now-is : (c t : ℕ) → c < 32 → t < 32 → open? (s′ .state .slots) c t ≡ in? (openOf (ledgerLast x .board)) c t
-  now-is = open-in (ledgerLast x) (s′ .state) after
+  now-is : (c t : ℕ) → c < 32 → t < 32 → open? (s′ .marked .state .slots) c t ≡ in? (openOf (ledgerLast x .board)) c t
+  now-is = open-in (ledgerLast x) (s′ .marked .state) after
 
   -- what the slot bytes say of a slot that the command opened or closed cannot stay
   changes : (c t : ℕ) → c < 32 → t < 32 → T (differ (in? (openOf (ledgerBefore x .board)) c t) (in? (openOf (ledgerLast x .board)) c t))
-      → s′ .state .slots ≡ s .state .slots → ⊥
+      → s′ .marked .state .slots ≡ s .marked .state .slots → ⊥
   changes c t lc lt d same =
       differ-not (in? (openOf (ledgerBefore x .board)) c t) (in? (openOf (ledgerLast x .board)) c t) d
       (sym (was c t lc lt) ∙ ap (λ (l : List ℕ). open? l c t) (sym same) ∙ now-is c t lc lt)
@@ -133,11 +133,11 @@ module _ (x : Sample) (s : Whole) (given : Answer) (s′ : Whole) (last : Last x
   shape-after : LedgerShape (ledgerLast x)
   shape-after = is-after .0
 
-  lent-after : lentOf (s′ .state) ≡ lengths .buffers
+  lent-after : lentOf (s′ .marked .state) ≡ lengths .buffers
   lent-after = ap (λ (l : CommandLent). l .buffers) (is-lengths (ledgerLast x) s′ is-after)
 
   -- a value of which the report of what was read says n is n in the answer
-  told : (value : Report → ℕ) (n : ℕ) → ((r : Report) → ReportsOf (readAt (x .last) 0 .read) (s .state) (s′ .state) r → value r ≡ n) → Right x → x .outcome .refused ≡ 0
+  told : (value : Report → ℕ) (n : ℕ) → ((r : Report) → ReportsOf (readAt (x .last) 0 .read) (s .marked .state) (s′ .marked .state) r → value r ≡ n) → Right x → x .outcome .refused ≡ 0
       → (r : Report) → given ≡ answer.Accepted r → value r ≡ n
   told value n says right accepted r e =
       let d = accepted-is right accepted in
@@ -169,15 +169,15 @@ module _ (s : Whole) (given : Answer) (s′ : Whole) where
       omega arith
 
   -- ONE THAT STRIKES EVERYTHING
-  pub not-striking-all : Last p1 s given s′ → ((c t : ℕ) → OnBoard (ledgerLast p1 .board) c t → causeOf (s′ .state .slots) c t < 64) → ⊥
+  pub not-striking-all : Last p1 s given s′ → ((c t : ℕ) → OnBoard (ledgerLast p1 .board) c t → causeOf (s′ .marked .state .slots) c t < 64) → ⊥
   not-striking-all last all = omega (arith, all 0 0 (lit< tt), opens p1 s given s′ last right-p1 0 0 (lit< tt) (lit< tt) tt)
 
   -- ONE THAT STRIKES NOTHING
-  pub not-striking-none : Last p1 s given s′ → ((c t : ℕ) → OnBoard (ledgerLast p1 .board) c t → causeOf (s′ .state .slots) c t ≡ 255) → ⊥
+  pub not-striking-none : Last p1 s given s′ → ((c t : ℕ) → OnBoard (ledgerLast p1 .board) c t → causeOf (s′ .marked .state .slots) c t ≡ 255) → ⊥
   not-striking-none last all = closes p1 s given s′ last right-p1 0 2 (lit< tt) (lit< tt) tt (all 0 2 (lit< tt))
 
   -- ONE THAT ALWAYS SHOWS ONE MASK: after P5 the two calls differ
-  pub not-one-mask : Last p5 s given s′ → (shown : OpenSlots) → SlotsPromise (s′ .state) 0 shown → SlotsPromise (s′ .state) 1 shown → ⊥
+  pub not-one-mask : Last p5 s given s′ → (shown : OpenSlots) → SlotsPromise (s′ .marked .state) 0 shown → SlotsPromise (s′ .marked .state) 1 shown → ⊥
   unfolding active? live?
   not-one-mask last shown m m′ =
       let L = ledgerLast p5 in
@@ -186,53 +186,53 @@ module _ (s : Whole) (given : Answer) (s′ : Whole) where
       let same = lent-after p5 s given s′ last in
       let e : slotsValues shown ≡ values-at 0 (lengths .buffers) = m .answered L shape rep .values ∙ ap (values-at 0) same in
       let e′ : slotsValues shown ≡ values-at 1 (lengths .buffers) = m′ .answered L shape rep .values ∙ ap (values-at 1) same in
-      let empty : maskOf 32 (open? (s′ .state .slots) 0) ≡ 0 =
-      mask-same 32 (open? (s′ .state .slots) 0) (in? (openOf (L .board)) 0) (λ t h. now-is p5 s given s′ last 0 t (lit< tt) h) in
-      let full : maskOf 32 (open? (s′ .state .slots) 1) ≡ 3 =
-      mask-same 32 (open? (s′ .state .slots) 1) (in? (openOf (L .board)) 1) (λ t h. now-is p5 s given s′ last 1 t (lit< tt) h) in
+      let empty : maskOf 32 (open? (s′ .marked .state .slots) 0) ≡ 0 =
+      mask-same 32 (open? (s′ .marked .state .slots) 0) (in? (openOf (L .board)) 0) (λ t h. now-is p5 s given s′ last 0 t (lit< tt) h) in
+      let full : maskOf 32 (open? (s′ .marked .state .slots) 1) ≡ 3 =
+      mask-same 32 (open? (s′ .marked .state .slots) 1) (in? (openOf (L .board)) 1) (λ t h. now-is p5 s given s′ last 1 t (lit< tt) h) in
       let z : _≡_ {A = ℕ} 0 3 = sym empty ∙ ap (λ (l : List ℕ). getD l 0 0) (sym e ∙ e′) ∙ full in
       omega arith
     where
       values-at : ℕ → Lent → List ℕ
-      values-at c l = valuesAt (firstOf (callConditions (ledgerLast p5) l c)) (maskOf 32 (open? (s′ .state .slots) c) ∷ countBelow 32 (open? (s′ .state .slots) c) ∷ [])
+      values-at c l = valuesAt (firstOf (callConditions (ledgerLast p5) l c)) (maskOf 32 (open? (s′ .marked .state .slots) c) ∷ countBelow 32 (open? (s′ .marked .state .slots) c) ∷ [])
 
   -- ONE THAT IGNORES LIFTS
-  pub not-ignoring-lifts : Last p6 s given s′ → s′ .state .slots ≡ s .state .slots → ⊥
+  pub not-ignoring-lifts : Last p6 s given s′ → s′ .marked .state .slots ≡ s .marked .state .slots → ⊥
   unfolding active? live?
   not-ignoring-lifts last = changes p6 s given s′ last 0 0 (lit< tt) (lit< tt) tt
 
   -- ONE THAT STRIKES AT THE FIRST PUT AND IDLES LATER
-  pub not-idling : Last p2 s given s′ → s′ .state .slots ≡ s .state .slots → ⊥
+  pub not-idling : Last p2 s given s′ → s′ .marked .state .slots ≡ s .marked .state .slots → ⊥
   unfolding active? live?
   not-idling last = changes p2 s given s′ last 0 1 (lit< tt) (lit< tt) tt
 
   -- ONE THAT NAMES ONE CAUSE FOR ALL
-  pub not-one-cause : Last p2 s given s′ → (n : ℕ) → ((c t : ℕ) → Struck (ledgerLast p2 .board) (causeOf (s′ .state .slots)) c t → causeOf (s′ .state .slots) c t ≡ n) → ⊥
+  pub not-one-cause : Last p2 s given s′ → (n : ℕ) → ((c t : ℕ) → Struck (ledgerLast p2 .board) (causeOf (s′ .marked .state .slots)) c t → causeOf (s′ .marked .state .slots) c t ≡ n) → ⊥
   unfolding active? live?
   not-one-cause last n one =
       let h = strikes p2 s given s′ last right-p2 0 2 (lit< tt) (lit< tt) (lit< tt) tt in
       let h′ = strikes p2 s given s′ last right-p2 2 1 (lit< tt) (lit< tt) (lit< tt) tt in
       let sound = after p2 s given s′ last .stored .recorded .sound in
-      two-causes (ledgerLast p2 .board) (causeOf (s′ .state .slots)) (killerOf (s′ .state .killers)) tt
+      two-causes (ledgerLast p2 .board) (causeOf (s′ .marked .state .slots)) (killerOf (s′ .marked .state .killers)) tt
       (sound .grounded 0 2 h) (sound .grounded 2 1 h′) (one 0 2 h ∙ sym (one 2 1 h′))
 
   -- ONE THAT INVENTS S, AND ONE THAT INVENTS R
   pub not-inventing-struck : Last p1 s given s′ → (r : Report) → given ≡ answer.Accepted r → r .struck ≢ 2 → ⊥
   not-inventing-struck last r e wrong =
       wrong (told p1 s given s′ last (λ r. r .struck) 2
-      (λ r w. w .struck ∙ struck-between (ledgerBefore p1) (ledgerLast p1) (s .state) (s′ .state) (is p1 s given s′ last .1) (after p1 s given s′ last)
+      (λ r w. w .struck ∙ struck-between (ledgerBefore p1) (ledgerLast p1) (s .marked .state) (s′ .marked .state) (is p1 s given s′ last .1 .state) (after p1 s given s′ last)
       ∙ ap (λ (o : Outcome). o .struck) (right-p1 .outcome))
       right-p1 refl r e)
 
   pub not-inventing-reopened : Last p3 s given s′ → (r : Report) → given ≡ answer.Accepted r → r .reopened ≢ 4 → ⊥
   not-inventing-reopened last r e wrong =
       wrong (told p3 s given s′ last (λ r. r .reopened) 4
-      (λ r w. w .reopened ∙ reopened-between (ledgerBefore p3) (ledgerLast p3) (s .state) (s′ .state) (is p3 s given s′ last .1) (after p3 s given s′ last) refl
+      (λ r w. w .reopened ∙ reopened-between (ledgerBefore p3) (ledgerLast p3) (s .marked .state) (s′ .marked .state) (is p3 s given s′ last .1 .state) (after p3 s given s′ last) refl
       ∙ ap (λ (o : Outcome). o .reopened) (right-p3 .outcome))
       right-p3 refl r e)
 
   -- ONE THAT SAYS "NONE" WITH A LIVING ROW THERE: row 0 of P1's rule holds slot 0 in column 0
-  pub not-none-with-support : Last p1 s given s′ → SupportPromise (s′ .state) 0 0 0 support.Nothing → ⊥
+  pub not-none-with-support : Last p1 s given s′ → SupportPromise (s′ .marked .state) 0 0 0 support.Nothing → ⊥
   unfolding active? live?
   not-none-with-support last m =
       let L = ledgerLast p1 in
@@ -240,15 +240,15 @@ module _ (s : Whole) (given : Answer) (s′ : Whole) where
       (λ k n. found-viable (L .board) (callAt (ruleAt (L .board) 0) k) (slotAt (ruleAt (L .board) 0) 0 k) .0 (within→ (L .board) (ruleAt (L .board) 0) (openOf (L .board)) 0 tt k n)) refl
 
   -- THE WRONG TURNS (SCOPE 9). 9.1: P4's two slots are left struck, each waiting for the other
-  pub not-waiting : Last p4Retract s given s′ → causeOf (s′ .state .slots) 0 1 < 64 → causeOf (s′ .state .slots) 1 1 < 64 → ⊥
+  pub not-waiting : Last p4Retract s given s′ → causeOf (s′ .marked .state .slots) 0 1 < 64 → causeOf (s′ .marked .state .slots) 1 1 < 64 → ⊥
   not-waiting last h h′ = omega (arith, opens p4Retract s given s′ last right-p4-retract 0 1 (lit< tt) (lit< tt) tt)
 
   -- 9.2: slot 1 of call 2 is left struck in P3
-  pub not-own-cause-only : Last p3 s given s′ → causeOf (s′ .state .slots) 2 1 < 64 → ⊥
+  pub not-own-cause-only : Last p3 s given s′ → causeOf (s′ .marked .state .slots) 2 1 < 64 → ⊥
   not-own-cause-only last h = omega (arith, opens p3 s given s′ last right-p3 2 1 (lit< tt) (lit< tt) tt)
 
   -- 9.4: P5's call 1 is cleared because call 0 has nothing left
-  pub not-clearing : Last p5 s given s′ → ((c t : ℕ) → OnBoard (ledgerLast p5 .board) c t → causeOf (s′ .state .slots) c t < 64) → ⊥
+  pub not-clearing : Last p5 s given s′ → ((c t : ℕ) → OnBoard (ledgerLast p5 .board) c t → causeOf (s′ .marked .state .slots) c t < 64) → ⊥
   not-clearing last all = omega (arith, all 1 0 (lit< tt), opens p5 s given s′ last right-p5 1 0 (lit< tt) (lit< tt) tt)
 
   -- WRONG TABLES (SCOPE 2.9). ONE OF ZEROS after P1, which leaves open slots

@@ -21,7 +21,7 @@ use Rattle.sheet.specs.declared.advance.Progress.{Progress}
 use Rattle.sheet.specs.Line.{answerLine, ShortAnswer, LineAppended}
 use Rattle.sheet.specs.Advance.{ledgerNext, lineOf, placeBy, nextPlace, Held, Advanced}
 use Rattle.sheet.specs.Laws.Answers.{answer-line, answer-short}
-use Rattle.layout.specs.Memory.{State}
+use Rattle.layout.specs.Memory.{MarkedState}
 use Rattle.sheet_lines.specs.Laws.Append.{append-none, append-same}
 use Rattle.model.specs.Refusals.{firstOf}
 
@@ -89,24 +89,24 @@ advance-shape L s at shape = go (readAt s at .read) (readAt s at .counts) (count
     go found.End ns most = shape
 
 -- what was obeyed on a state of some ledger has a short line
-pub held-short : {before after : State} {c : Command} {ns : List ℕ} {given : Answer} → Held before → Obeys before c ns given after → ShortAnswer given
+pub held-short : {before after : MarkedState} {c : Command} {ns : List ℕ} {given : Answer} → Held before → Obeys before c ns given after → ShortAnswer given
 held-short {before} {after} {c} {ns} {given} h o =
-    answer-short (h .ledger) before after c ns (h .represents) given (o .promise .obeyed (h .ledger) (h .shape) (h .represents))
+    answer-short (h .ledger) (h .shape) before after c ns (h .represents) given (o .promise .obeyed (h .ledger) (h .shape) (h .represents))
 
 -- THE CODE'S ROUND, where the code has d for what stands at the place
-pub advanced-same : {d x : Decoded} {end : ℕ} {p r : Progress} {before after : State} {old new : List ℕ} → d ≡ x
+pub advanced-same : {d x : Decoded} {end : ℕ} {p r : Progress} {before after : MarkedState} {old new : List ℕ} → d ≡ x
     → Advanced d end p before old r after new → Advanced x end p before old r after new
 advanced-same e t = rw e at t
 
-module _ (d : Decoded) (end : ℕ) (p : Progress) (before : State) (old : List ℕ) (r : Progress) where
-  pub advanced-command : (c : Command) → d .read ≡ found.Command c → (given : Answer) (after : State) (new : List ℕ) → r .read ≡ d .next
+module _ (d : Decoded) (end : ℕ) (p : Progress) (before : MarkedState) (old : List ℕ) (r : Progress) where
+  pub advanced-command : (c : Command) → d .read ≡ found.Command c → (given : Answer) (after : MarkedState) (new : List ℕ) → r .read ≡ d .next
       → Obeys before c (d .counts) given after → LineAppended (answerLine c given) (p .written) old new (r .written) → Advanced d end p before old r after new
   unfolding ledgerNext lineOf nextPlace
   advanced-command c e given after new next obeys line =
       record {
         read = rw e next;
         short = line .short;
-        line = λ L shape rep. rw e (append-same (answer-line L before after c (d .counts) rep given (obeys .promise .obeyed L shape rep)) (line .appended));
+        line = λ L shape rep. rw e (append-same (answer-line L shape before after c (d .counts) rep given (obeys .promise .obeyed L shape rep)) (line .appended));
         represents = λ L shape rep. rw e (obeys .promise .obeyed L shape rep .represents);
       }
 

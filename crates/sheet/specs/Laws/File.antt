@@ -3,15 +3,16 @@
 use mathlib.Core.Path.{_≡_, refl, sym, ap, _∙_}
 use mathlib.Core.Bool.{Bool, true, false, cond}
 use mathlib.Core.List.{List, [], _++_, append-assoc}
-use Prim.Native.Nat.{ℕ, zero, suc, _+_, _≤_, _<_}
+use Prim.Native.Nat.{ℕ, zero, suc, _+_, _/_, _%_, _≤_, _<_}
 use native.Mathlib.Omega.{arith}
 use lib.ListN.{length, length-append}
 use lib.Dec.{eqb}
 use borrow.Author.Tests.{eq-eqb, ne-eqb}
 use Rattle.model.specs.declared.command.Decoded.{Decoded}
+use Rattle.model.specs.Tests.{countBelow}
 use Rattle.model.specs.Commands.{readAt}
 use Rattle.model.specs.Ledger.{fresh, upToZero}
-use Rattle.model.specs.Representation.{Represents}
+use Rattle.model.specs.Marks.{RepresentsMarked}
 use Rattle.model.specs.Report.{slotCount, open?}
 use Rattle.model.specs.Sheet.{totalLine, readsFrom, linesFrom}
 use Rattle.model.specs.Laws.Shapes.{shape-fresh}
@@ -21,9 +22,8 @@ use Rattle.sheet_lines.specs.Calls.{slotLine}
 use Rattle.sheet.specs.declared.advance.Progress.{Progress}
 use Rattle.sheet.specs.Advance.{ledgerNext, lineOf, Held, Advanced}
 use Rattle.sheet.specs.File.{fileLines, countedLines, Fits, Lined, Reached}
-use Rattle.sheet.specs.Laws.Answers.{slots-most}
 use Rattle.sheet.specs.Laws.Advance.{reads-end, advance-lines, advance-further, advance-shape}
-use Rattle.layout.specs.Memory.{State}
+use Rattle.layout.specs.Memory.{MarkedState}
 use Rattle.layout.specs.Sizes.{slotsLength}
 use Rattle.sheet_lines.specs.Laws.Append.{append-none, append-more, append-same, room-less, room-after}
 use Rattle.sheet_lines.specs.Laws.Counts.{counted-lines, count-most}
@@ -33,6 +33,18 @@ use Rattle.sheet_lines.specs.Lengths.{boardLinesMost, lineMost, decimalEnd}
 -- A NUMBER OF SLOTS has a decimal: there are no more than 1,024
 has-decimal : (n : ℕ) → n ≤ slotsLength → n < decimalEnd
 has-decimal n h = omega arith
+
+-- no test passes more often than it is made
+passes-most : (n : ℕ) (f : ℕ → Bool) → countBelow n f ≤ n
+passes-most zero f = omega arith
+passes-most (suc n) f = go (f n) (passes-most n f)
+  where
+    go : (b : Bool) → countBelow n f ≤ n → countBelow n f + cond b 1 0 ≤ suc n
+    go true h = omega arith
+    go false h = omega arith
+
+slots-most : (f : ℕ → ℕ → Bool) → slotCount f ≤ slotsLength
+slots-most f = passes-most slotsLength (λ i. f (i / 32) (i % 32))
 
 total-small : (slots : List ℕ) → slotCount (open? slots) < decimalEnd
 total-small slots = has-decimal (slotCount (open? slots)) (slots-most (open? slots))
@@ -79,7 +91,7 @@ board-bytes-most counts slots size =
     (whole-most slots n total (calls-most counts size n refl) (total-small slots))
 
 -- BEFORE THE FIRST ROUND
-pub reached-start : (input : List ℕ) (p : Progress) (s : State) (out : List ℕ) → p .read ≡ 0 → p .written ≡ 0 → Represents fresh s → Reached input p s out out
+pub reached-start : (input : List ℕ) (p : Progress) (s : MarkedState) (out : List ℕ) → p .read ≡ 0 → p .written ≡ 0 → RepresentsMarked fresh s → Reached input p s out out
 unfolding fileLines
 reached-start input p s out read written rep =
     record {
@@ -96,11 +108,11 @@ reached-start input p s out read written rep =
     }
 
 -- a round may be taken
-pub reached-held : {input : List ℕ} {p : Progress} {s : State} {old new : List ℕ} → Reached input p s old new → Held s
+pub reached-held : {input : List ℕ} {p : Progress} {s : MarkedState} {old new : List ℕ} → Reached input p s old new → Held s
 reached-held r = record { ledger = r .ledger; shape = r .shape; represents = r .represents }
 
 -- ONE ROUND MORE
-module _ (input : List ℕ) (p q : Progress) (before after : State) (old mid new : List ℕ) (r : Reached input p before old mid) (further : p .read < length input)
+module _ (input : List ℕ) (p q : Progress) (before after : MarkedState) (old mid new : List ℕ) (r : Reached input p before old mid) (further : p .read < length input)
     (t : Advanced (readAt input (p .read)) (length input) p before mid q after new) where
   pub reads-on : p .read < q .read
   reads-on = omega (arith, t .read, advance-further input (p .read) further .0)
@@ -131,7 +143,7 @@ module _ (input : List ℕ) (p q : Progress) (before after : State) (old mid new
           }
 
 -- WHERE A BUFFER WITH ROOM FOR THE LONGEST SHEET was lent
-module _ (input : List ℕ) (p : Progress) (s : State) (old mid : List ℕ) (r : Reached input p s old mid) (fits : Fits input old) where
+module _ (input : List ℕ) (p : Progress) (s : MarkedState) (old mid : List ℕ) (r : Reached input p s old mid) (fits : Fits input old) where
   -- there is room for the line of a round, and for the lines of the board
   pub advance-room : p .read < length input → Room (p .written) lineMost mid
   advance-room further = record { fits = omega (arith, r .appended .size, r .short, fits .input-most, fits .room) }
@@ -140,17 +152,17 @@ module _ (input : List ℕ) (p : Progress) (s : State) (old mid : List ℕ) (r :
   board-room = record { fits = omega (arith, r .appended .size, r .short, r .inside, fits .input-most, fits .room) }
 
   -- after the last round, with the lines of the board, it is all lines
-  pub reached-end : length input ≤ p .read → (new : List ℕ) (n : ℕ) → Appended (countedLines (s .value .heads .counts) (s .slots)) (p .written) mid new n
+  pub reached-end : length input ≤ p .read → (new : List ℕ) (n : ℕ) → Appended (countedLines (s .state .value .heads .counts) (s .state .slots)) (p .written) mid new n
       → Lined (fileLines input) old new n
   unfolding countedLines
   reached-end last new n a =
       record {
         appended = append-same lines (append-more (r .appended) a);
-        most = omega (arith, a .place, r .short, r .inside, fits .input-most, board-bytes-most (s .value .heads .counts) (s .slots) (r .represents .stored .headed .counts-size));
+        most = omega (arith, a .place, r .short, r .inside, fits .input-most, board-bytes-most (s .state .value .heads .counts) (s .state .slots) (r .represents .state .stored .headed .counts-size));
       }
     where
-      lines : r .lines ++ countedLines (s .value .heads .counts) (s .slots) ≡ fileLines input
+      lines : r .lines ++ countedLines (s .state .value .heads .counts) (s .state .slots) ≡ fileLines input
       lines =
-          ap (λ (l : List ℕ). r .lines ++ l) (counted-lines (r .ledger) s (r .shape .board) (r .represents))
+          ap (λ (l : List ℕ). r .lines ++ l) (counted-lines (r .ledger) (s .state) (r .shape .board) (r .represents .state))
           ∙ ap (λ (ds : List Decoded). r .lines ++ linesFrom (r .ledger) ds) (sym (reads-end (r .most) input (p .read) last))
           ∙ r .all

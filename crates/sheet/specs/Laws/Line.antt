@@ -42,6 +42,8 @@ kind-digit (kind.Row w) = omega arith
 kind-digit kind.Post = omega arith
 kind-digit (kind.Retract n) = omega arith
 kind-digit (kind.Gap f) = omega arith
+kind-digit (kind.Keep n) = omega arith
+kind-digit (kind.Back n) = omega arith
 
 module _ (c : Command) {given : Answer} {q : Report} {kind k : ℕ} (is : given ≡ answer.Accepted q) (short : ShortAnswer given) (wide : Wide kind k) (same : kind ≡ kindOf c) where
   accepted-short : ShortAnswer (answer.Accepted q)
@@ -50,14 +52,14 @@ module _ (c : Command) {given : Answer} {q : Report} {kind k : ℕ} (is : given 
   acceptance-most : length (acceptedLine k (q .struck) (q .reopened)) ≤ lineMost
   acceptance-most =
       let a = accepted-short in
-      accepted-most k (q .struck) (q .reopened) (omega (arith, kind-digit c, wide .same, same)) (a .struck) (a .reopened) (a .one)
+      accepted-most k (q .struck) (q .reopened) (omega (arith, kind-digit c, wide .same, same)) (a .together)
 
   -- what the function that writes it asks
   pub acceptance-asks : {place : ℕ} {out : List ℕ} → Room place lineMost out
       → Room place (length (acceptedLine k (q .struck) (q .reopened))) out × ((k < decimalEnd) × ((q .struck < decimalEnd) × (q .reopened < decimalEnd)))
   acceptance-asks room =
       let a = accepted-short in
-      (room-less room acceptance-most, (omega (arith, wide .most), (omega (arith, a .struck), omega (arith, a .reopened))))
+      (room-less room acceptance-most, (omega (arith, wide .most), (omega (arith, a .together), omega (arith, a .together))))
 
   pub acceptance-appended : {place r : ℕ} {old new : List ℕ} → Appended (acceptedLine k (q .struck) (q .reopened)) place old new r → LineAppended (answerLine c given) place old new r
   acceptance-appended a =

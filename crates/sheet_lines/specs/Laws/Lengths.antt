@@ -2,7 +2,7 @@
 use mathlib.Core.Path.{_≡_, refl}
 use mathlib.Core.Bool.{Bool, true, false, cond}
 use mathlib.Core.List.{List, [], _∷_}
-use mathlib.Core.Logic.{_⊎_, ⊎-elim}
+use mathlib.Core.Logic.{⊎-elim}
 use Prim.Native.Nat.{ℕ, _+_, _*_, _/_, _%_, _≤_, _<_}
 use native.Mathlib.Omega.{arith}
 use lib.ListN.{length, length-append}
@@ -18,6 +18,7 @@ use Rattle.sheet_lines.specs.Laws.Digits.{decimal-parts}
 use Rattle.sheet_lines.specs.Laws.Joined.{joined-most}
 use Rattle.sheet_lines.specs.Lengths.{reaches, callLineMost, decimalEnd, lineMost, totalLineMost, boardLinesMost}
 use Rattle.layout.specs.Sizes.{slotsLength}
+use Rattle.tables.specs.Laws.Facts.{lt-or-le}
 
 pub reaches-most : (n w : ℕ) → reaches n w ≤ 1
 reaches-most n w = go (leb w n)
@@ -60,9 +61,9 @@ spaced-length n ns = omega (arith, length-append (decimal n) (spaced ns))
 pub line-length : (letter : ℕ) (ns : List ℕ) → length (line letter ns) ≡ 2 + length (spaced ns)
 line-length letter ns = omega (arith, length-append (spaced ns) (10 ∷ []))
 
--- the line of an accepted command: one of S and R is 0, and there are no more than 1,024 slots
-pub accepted-most : (k s r : ℕ) → k < 10 → s ≤ slotsLength → r ≤ slotsLength → (s ≡ 0) ⊎ (r ≡ 0) → length (acceptedLine k s r) ≤ lineMost
-accepted-most k s r lk ls lr zero =
+-- the line of an accepted command: S and R together are no more than 1,024 slots
+pub accepted-most : (k s r : ℕ) → k < 10 → s + r ≤ slotsLength → length (acceptedLine k s r) ≤ lineMost
+accepted-most k s r lk few =
     omega (
       arith,
       line-length 97 (k ∷ s ∷ r ∷ []),
@@ -73,12 +74,13 @@ accepted-most k s r lk ls lr zero =
       both,
     )
   where
-    both : length (decimal s) + length (decimal r) ≤ 5
-    both =
-        ⊎-elim
-        (λ (e : s ≡ 0). omega (arith, one-digit s (omega arith), four-digits r (omega arith)))
-        (λ (e : r ≡ 0). omega (arith, four-digits s (omega arith), one-digit r (omega arith)))
-        zero
+    both : length (decimal s) + length (decimal r) ≤ 6
+    both = ⊎-elim small (λ (h : 1000 ≤ s). omega (arith, four-digits s (omega arith), two-digits r (omega arith))) (lt-or-le s 1000)
+      where
+        small : s < 1000 → length (decimal s) + length (decimal r) ≤ 6
+        small h =
+            ⊎-elim (λ (l : r < 1000). omega (arith, three-digits s h, three-digits r l)) (λ (l : 1000 ≤ r). omega (arith, two-digits s (omega arith), four-digits r (omega arith)))
+            (lt-or-le r 1000)
 
 -- the line of a refused one: a byte for its kind, and one for the refusal's number
 pub refused-most : (k n : ℕ) → k ≤ 255 → n ≤ 255 → length (refusedLine k n) ≤ lineMost

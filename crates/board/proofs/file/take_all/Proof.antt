@@ -1,46 +1,48 @@
 -- The loop keeps what `TakenTo` says: what was entered and what is left are all of the file. A round reads on, so the measure falls.
-use mathlib.Core.Path.{refl}
+use mathlib.Core.Path.{_≡_, refl}
 use Prim.Native.Nat.{_-_}
 use native.Mathlib.Omega.{arith}
 use lib.ListN.{length}
 use borrow.Author.Needs.{needs}
 use Rattle.layout.specs.Bounds.{Sizes}
-use Rattle.layout.specs.Memory.{stateOf}
+use Rattle.layout.specs.Memory.{stateOf, markedOf}
+use Rattle.layout.specs.Sizes.{marksLength}
 use Rattle.board.specs.Replay.{TakenTo}
 use Rattle.board.specs.Laws.Replay.{taken-none, taken-more, file-taken}
 use Rattle.board.proofs.file.take_all.Statement.{statement}
 use Rattle.board.proofs.file.take_all.Tie as tie
 
 abbrev Inv-loop : tie.InvT-loop
-Inv-loop file rows₀ killers₀ slots₀ position₀ rows killers slots position = Sizes rows killers slots × TakenTo file position (stateOf (position .value) rows killers slots)
+Inv-loop names₀ file rows₀ killers₀ slots₀ marks₀ position₀ names rows killers slots marks position =
+    Sizes rows killers slots × (length marks ≡ marksLength) × TakenTo marks₀ file position (markedOf (stateOf (position .value) rows killers slots) names marks)
 
 abbrev μ-loop : tie.MeasureT-loop
-μ-loop file rows₀ killers₀ slots₀ position₀ rows killers slots position = length file - position .at
+μ-loop names₀ file rows₀ killers₀ slots₀ marks₀ position₀ names rows killers slots marks position = length file - position .at
 
 loop-holds : tie.Need-loop-holds Inv-loop μ-loop
 loop-holds c =
-    let start = c .before .before .before .before in
-    (start .pre .0, taken-none _ _ _ refl refl refl (start .pre .1))
+    let start = c .before .before .before .before .before in
+    (start .pre .0, start .pre .1 .0, taken-none _ _ _ _ (start .pre .1 .0) refl refl refl (start .pre .1 .1))
 
 take-next-requires : tie.Need-take-next-requires Inv-loop μ-loop
 take-next-requires c κs =
-    let test = c .before .before .before in
+    let test = c .before .before .before .before .before in
     let loop = test .before .before in
-    (loop .loop .inv .0, record { further = test .if1 .taken; few = loop .loop .inv .1 .few })
+    (loop .loop .inv .0, (loop .loop .inv .1, record { further = test .if1 .taken; few = loop .loop .inv .2 .few }))
 
 loop-less : tie.Need-loop-less Inv-loop μ-loop
 loop-less c =
-    let taken = c .before .before .before .before .before .before in
-    let test = taken .before .before .before .before in
+    let taken = c .before .before .before .before .before .before .before .before in
+    let test = taken .before .before .before .before .before .before in
     let loop = test .before .before in
-    omega (arith, test .if1 .taken, taken-more _ _ _ _ _ (loop .loop .inv .1) (test .if1 .taken) (taken .take-next .ensures) .0)
+    omega (arith, test .if1 .taken, taken-more _ _ _ _ _ _ (loop .loop .inv .2) (test .if1 .taken) (taken .take-next .ensures) .0)
 
 loop-again : tie.Need-loop-again Inv-loop μ-loop
 loop-again c =
-    let taken = c .before .before .before .before .before .before in
-    let test = taken .before .before .before .before in
+    let taken = c .before .before .before .before .before .before .before .before in
+    let test = taken .before .before .before .before .before .before in
     let loop = test .before .before in
-    (search needs, taken-more _ _ _ _ _ (loop .loop .inv .1) (test .if1 .taken) (taken .take-next .ensures) .1)
+    (search needs, search needs, taken-more _ _ _ _ _ _ (loop .loop .inv .2) (test .if1 .taken) (taken .take-next .ensures) .1)
 
 same-length : tie.Need-same-length Inv-loop μ-loop
 same-length c = search needs
@@ -51,10 +53,13 @@ same-length-2 c = search needs
 same-length-3 : tie.Need-same-length-3 Inv-loop μ-loop
 same-length-3 c = search needs
 
+same-length-4 : tie.Need-same-length-4 Inv-loop μ-loop
+same-length-4 c = search needs
+
 returns : tie.Need-returns Inv-loop μ-loop
 returns c =
     let loop = c .before .before .before in
-    file-taken _ _ _ (loop .loop .inv .1) (c .before .if1 .left)
+    file-taken _ _ _ _ (loop .loop .inv .2) (c .before .if1 .left)
 
 pub take-all-spec : {M : Type 1} → statement M
 take-all-spec =
@@ -69,4 +74,5 @@ take-all-spec =
     same-length
     same-length-2
     same-length-3
+    same-length-4
     returns)

@@ -16,33 +16,30 @@ enum-told c = search needs
 
 -- where a command was read, it lies in the file
 command-place : (c : tie.After-enum-told) → let decoded = c .before .before in
-    let start = decoded .before .before .before .before .before .before in
+    let start = decoded .before .before .before .before .before .before .before in
     (start .args .position .at < decoded .decode .result .next) × (decoded .decode .result .next ≤ length (start .args .file .now))
 command-place c =
     let decoded = c .before .before in
-    let start = decoded .before .before .before .before .before .before in
+    let start = decoded .before .before .before .before .before .before .before in
     decoded-inside (start .args .file .now) (start .args .position .at) (decoded .decode .result) (decoded .decode .ensures) _ (c .enum-told .given .1)
 
 sub-obey-bytes : tie.Need-sub-obey-bytes
-sub-obey-bytes c =
-    omega (arith, command-place c .0)
+sub-obey-bytes c = omega (arith, command-place (c .before) .0)
 
 part-obey-bytes-start : tie.Need-part-obey-bytes-start
-part-obey-bytes-start c =
-    omega (arith, command-place c .0)
+part-obey-bytes-start c = omega (arith, command-place (c .before) .0)
 
 part-obey-bytes-end : tie.Need-part-obey-bytes-end
-part-obey-bytes-end c =
-    omega (arith, command-place c .1)
+part-obey-bytes-end c = omega (arith, command-place (c .before) .1)
 
 obey-bytes-requires : tie.Need-obey-bytes-requires
 obey-bytes-requires c κs = search needs
 
-add-t18 : tie.Need-add-t18
-add-t18 c =
-    let told = c .before .before .before .before .before .before .before .before .before .before .before .before in
-    let start = told .before .before .before .before .before .before .before .before in
-    omega (arith, start .pre .1 .further, start .pre .1 .few, start .good .1 .0 .1)
+add-t21 : tie.Need-add-t21
+add-t21 c =
+    let told = c .before .before .before .before .before .before .before .before .before .before .before .before .before .before .before .before in
+    let start = told .before .before .before .before .before .before .before .before .before in
+    omega (arith, start .pre .1 .1 .further, start .pre .1 .1 .few, start .good .1 .1 .0 .1)
 
 enum-known-read : tie.Need-enum-known-read
 enum-known-read c = search needs
@@ -59,17 +56,18 @@ same-length-2 c = search needs
 same-length-3 : tie.Need-same-length-3
 same-length-3 c = search needs
 
+same-length-4 : tie.Need-same-length-4
+same-length-4 c = search needs
+
 returns : tie.Need-returns
 returns c =
-    let entered = c .before .before .before .before .before .before .before in
-    let told = entered .before .before .before .before .before in
+    let entered = c .before .before .before .before .before .before .before .before .before in
+    let told = entered .before .before .before .before .before .before .before in
     let decoded = told .before .before in
-    let start = decoded .before .before .before .before .before .before in
     taken-command _ _ _ _ (decoded .decode .ensures) _ _ _ (told .enum-told .given .1) refl refl refl _ (entered .obey-bytes .ensures)
 
 returns-2 : tie.Need-returns-2
-returns-2 c =
-    taken-refused _ _ _ _ (c .before .before .before .decode .ensures) _ _ _ (c .before .read .given .1) refl refl refl
+returns-2 c = taken-refused _ _ _ _ (c .before .before .before .decode .ensures) _ _ _ (c .before .read .given .1) refl refl refl
 
 returns-3 : tie.Need-returns-3
 returns-3 c = taken-end _ _ _ _ (c .before .before .decode .ensures) _ (c .enum-told2 .given .1) refl refl refl
@@ -84,12 +82,13 @@ take-next-spec =
     part-obey-bytes-start
     part-obey-bytes-end
     obey-bytes-requires
-    add-t18
+    add-t21
     enum-known-read
     enum-told-2
     same-length
     same-length-2
     same-length-3
+    same-length-4
     returns
     returns-2
     returns-3)

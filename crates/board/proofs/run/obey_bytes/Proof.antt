@@ -7,8 +7,7 @@ decode-requires : tie.Need-decode-requires
 decode-requires c κs = search needs
 
 obey-read-requires : tie.Need-obey-read-requires
-obey-read-requires c κs =
-    (c .before .before .before .before .before .before .before .before .pre, c .before .before .before .decode .ensures)
+obey-read-requires c κs = search needs
 
 same-length : tie.Need-same-length
 same-length c = search needs
@@ -19,10 +18,13 @@ same-length-2 c = search needs
 same-length-3 : tie.Need-same-length-3
 same-length-3 c = search needs
 
+same-length-4 : tie.Need-same-length-4
+same-length-4 c = search needs
+
 returns : tie.Need-returns
 returns c = search needs
 
 pub obey-bytes-spec : {M : Type 1} → statement M
 obey-bytes-spec =
     tie.close
-    (tie.spec decode-requires obey-read-requires same-length same-length-2 same-length-3 returns)
+    (tie.spec decode-requires obey-read-requires same-length same-length-2 same-length-3 same-length-4 returns)

@@ -31,9 +31,9 @@ refused-requires-3 c κs = search needs
 returns : tie.Need-returns
 returns c =
     let told = c .before .before in
-    let start = told .before .before .before .before .before .before .before .before .before in
+    let start = told .before .before .before .before .before .before .before .before .before .before in
     rw (c .refused .ensures)
-    (refused-left-over lengths _ _ refl refl _ (start .pre .1) _ (told .before .before .read .given .1) (c .before .if1 .taken))
+    (refused-left-over lengths _ _ refl refl _ (start .pre .1 .1) _ (told .before .before .read .given .1) (c .before .if1 .taken))
 
 same-length : tie.Need-same-length
 same-length c = search needs
@@ -44,23 +44,26 @@ same-length-2 c = search needs
 same-length-3 : tie.Need-same-length-3
 same-length-3 c = search needs
 
+same-length-4 : tie.Need-same-length-4
+same-length-4 c = search needs
+
 returns-2 : tie.Need-returns-2
 returns-2 c =
-    let called = c .before .before .before .before .before .before in
-    let passed = called .before .before .before .before in
+    let called = c .before .before .before .before .before .before .before .before in
+    let passed = called .before .before .before .before .before .before in
     let told = passed .before in
-    let start = told .before .before .before .before .before .before .before .before .before in
-    obeys-promise _ (start .pre .1) (told .before .before .read .given .1) (passed .if1 .left) (called .obey .ensures)
+    let start = told .before .before .before .before .before .before .before .before .before .before in
+    obeys-promise _ (start .pre .1 .1) (told .before .before .read .given .1) (passed .if1 .left) (called .obey .ensures)
 
 returns-3 : tie.Need-returns-3
 returns-3 c =
-    let start = c .before .before .before .before .before .before .before .before .before in
-    rw (c .refused2 .ensures) (refused-read lengths _ _ refl refl _ (start .pre .1) _ _ (c .before .before .read2 .given .1))
+    let start = c .before .before .before .before .before .before .before .before .before .before in
+    rw (c .refused2 .ensures) (refused-read lengths _ _ refl refl _ (start .pre .1 .1) _ _ (c .before .before .read2 .given .1))
 
 returns-4 : tie.Need-returns-4
 returns-4 c =
-    let start = c .before .before .before .before .before .before .before .before in
-    rw (c .refused3 .ensures) (refused-end lengths _ _ refl refl _ (start .pre .1) (c .before .enum-told .given .1))
+    let start = c .before .before .before .before .before .before .before .before .before in
+    rw (c .refused3 .ensures) (refused-end lengths _ _ refl refl _ (start .pre .1 .1) (c .before .enum-told .given .1))
 
 pub obey-read-spec : {M : Type 1} → statement M
 obey-read-spec =
@@ -77,6 +80,7 @@ obey-read-spec =
     same-length
     same-length-2
     same-length-3
+    same-length-4
     returns-2
     returns-3
     returns-4)

@@ -16,9 +16,9 @@ obey-requires c κs = search needs
 
 answer-line-requires : tie.Need-answer-line-requires
 answer-line-requires c κs =
-    let obeyed = c .before .before .before .before .before .before .before .before in
-    let told = obeyed .before .before .before .before .before .before in
-    let start = told .before .before .before .before .before .before .before .before .before in
+    let obeyed = c .before .before .before .before .before .before .before .before .before .before in
+    let told = obeyed .before .before .before .before .before .before .before .before in
+    let start = told .before .before .before .before .before .before .before .before .before .before in
     (start .pre .1, held-short (start .pre .0) (obeyed .obey .ensures))
 
 enum-known-found-2 : tie.Need-enum-known-found-2
@@ -42,17 +42,20 @@ same-length-3 c = search needs
 same-length-4 : tie.Need-same-length-4
 same-length-4 c = search needs
 
+same-length-5 : tie.Need-same-length-5
+same-length-5 c = search needs
+
 returns : tie.Need-returns
 returns c =
     let line = c .before .before in
-    let obeyed = line .before .before .before .before .before .before .before .before .before in
-    let told = obeyed .before .before .before .before .before .before in
+    let obeyed = line .before .before .before .before .before .before .before .before .before .before .before in
+    let told = obeyed .before .before .before .before .before .before .before .before in
     let decoded = told .before .before in
     advanced-same (decoded .decode .ensures)
     (advanced-command _ _ _ _ _ _ _ (told .found .given .1) _ _ _ refl (obeyed .obey .ensures) (line .answer-line .ensures))
 
-same-length-5 : tie.Need-same-length-5
-same-length-5 c = search needs
+same-length-6 : tie.Need-same-length-6
+same-length-6 c = search needs
 
 returns-2 : tie.Need-returns-2
 returns-2 c =
@@ -80,7 +83,8 @@ advance-spec =
     same-length-2
     same-length-3
     same-length-4
-    returns
     same-length-5
+    returns
+    same-length-6
     returns-2
     returns-3)
