@@ -74,7 +74,7 @@ extern "C" {
 
 /*
  * The stack that a call needs, with the copies of the value that the questions are handed. It is measured and not proved: on x86-64, over every function and the
- * commands of a full board, hosts/stack.c found 5,768 bytes where it was compiled without optimisation, 5,864 with -O2, and 6,232, the most, with -O3.
+ * commands of a full board, hosts/stack.c found 5,992 bytes where it was compiled without optimisation, 6,264 with -O2, and 6,648, the most, with -O3.
  */
 #define BERTH_STACK 12288
 

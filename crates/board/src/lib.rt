@@ -29,9 +29,9 @@ ghost use Rattle.model.specs.Promise.{Promise};
 ghost use Rattle.layout.specs.Memory.{markedMemory, wholeOf};
 ghost use Rattle.board.specs.Replay.{ReplayPromise};
 
-// Refused, and the value, all buffers and the table are as they were; or accepted, and they are those of the board after the command, the table whatever it held. A
-// buffer that does not have its length (SCOPE 2) is refused 1 and a table that does not have 32 records 22; no byte at all is refused 3, and bytes left over after the
-// command 4.
+// Refused, and the value, the names, all buffers and the table are as they were; or accepted, and they are those of the board after the command, the table whatever it
+// held. A buffer that does not have its length (SCOPE 2), the marks among them, is refused 1 and a table that does not have 32 records 22; no byte at all is refused 3,
+// and bytes left over after the command 4.
 pub fn command(
     value: Value,
     names: &mut [u8; NAMES],
@@ -52,8 +52,8 @@ pub fn command(
     done.outcome
 }
 
-// Refused 1, 22 or 2, and the value, all buffers and the table are as they were; or the board is made fresh, whatever the memory held, and the file's commands are run
-// on it. A file without commands leaves the fresh board.
+// Refused 1, 22 or 2, and the value, the names, all buffers and the table are as they were; or the board is made fresh, whatever the memory held but for the marks' bytes,
+// and the file's commands are run on it. A file without commands leaves the fresh board.
 pub fn replay(
     value: Value,
     names: &mut [u8; NAMES],
