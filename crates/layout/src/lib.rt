@@ -1,4 +1,5 @@
-// THE MEMORY MAP: the value beside the lent buffers, the lengths of the buffers, and where each byte lies. Every other crate uses it; it uses none but the laws of lists of the crate tables.
+// THE MEMORY MAP: the value and the names of the marks beside the lent buffers, the lengths of the buffers, and where each byte lies. Every other crate uses it; it uses
+// none but the laws of lists of the crate tables.
 // Proved: every function. Assumed: nothing.
 pub mod value; // the value beside the buffers, and the buffers' lengths
 pub mod places; // where bytes lie, and caps
