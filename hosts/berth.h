@@ -79,7 +79,7 @@ extern "C" {
 #define BERTH_STACK 12288
 
 /* The version that this header is of. It rises with any change of a struct, of a function or of what one means. */
-#define BERTH_VERSION 6
+#define BERTH_VERSION 7
 
 /* The version of the library, and the bytes of its value and names. They are plain numbers, so that they can be asked whatever else differs. */
 uint32_t berth_version(void);
@@ -298,7 +298,7 @@ struct berth_place_reply {
 struct berth_place_reply berth_row_place(struct berth_value value, const uint8_t *rows, size_t rows_length, const uint8_t *killers, size_t killers_length,
                                          const uint8_t *slots, size_t slots_length, uint8_t rule, uint8_t row);
 
-/* A living row of the rule with the slot in the column. Checked: 1, 6, 7, 17, 21, 19. */
+/* The lowest-numbered living row of the rule with the slot in the column: one answer for one board, however it came about. Checked: 1, 6, 7, 17, 21, 19. */
 struct berth_support_reply {
     uint8_t number; /* 0, or the refusal */
     uint8_t row;    /* the row's number; 255 where there is none; 254 where refused */

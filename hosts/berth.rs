@@ -20,7 +20,7 @@ pub const RECORDS: usize = 32;
 pub const FILE: usize = 32768;
 
 /// The version that this file is of; the library has its own.
-pub const VERSION: u32 = 6;
+pub const VERSION: u32 = 7;
 
 /// The calls and the heads of the rules in force.
 #[repr(C)]
@@ -452,7 +452,7 @@ pub mod lent {
             &self.rows[reply.place..reply.place + reply.length]
         }
 
-        /// The number of a living row with the slot in the rule's column.
+        /// The lowest-numbered living row with the slot in the rule's column.
         pub fn support(self, rule: u8, column: u8, slot: u8) -> Answer<Option<u8>> {
             let reply = ask!(berth_support, self, rule, column, slot);
             let given = match reply.byte {
@@ -600,7 +600,7 @@ impl Board {
         self.memory().row_bytes(rule, row)
     }
 
-    /// The number of a living row with the slot in the rule's column.
+    /// The lowest-numbered living row with the slot in the rule's column.
     pub fn support(&self, rule: u8, column: u8, slot: u8) -> Answer<Option<u8>> {
         self.memory().support(rule, column, slot)
     }

@@ -138,6 +138,23 @@ static void ask(const struct berth_board *board) {
     same("rule not in force", berth_board_support(board, 9, 0, 0).number, BERTH_NOT_IN_FORCE);
 }
 
+/* Of rows with the slot in the column, the lowest that lives is given: row 1 where all three live, row 2 while row 1 is dead. */
+static void support_lowest(struct berth_board *board) {
+    same("board", berth_board_start(board, (const uint8_t[]){2, 3}, 2).number, 0);
+    same("head", berth_board_head(board, 4, (const uint8_t[]){0, 1}, 2).number, 0);
+    same("row of the other slot", berth_board_row(board, (const uint8_t[]){1, 2}, 2).number, 0);
+    same("low row", berth_board_row(board, (const uint8_t[]){0, 1}, 2).number, 0);
+    same("high row", berth_board_row(board, (const uint8_t[]){0, 0}, 2).number, 0);
+    same("put", berth_board_put(board).number, 0);
+    same("lowest of two", berth_board_support(board, 4, 0, 0).row, 1);
+    same("head", berth_board_head(board, 6, (const uint8_t[]){1}, 1).number, 0);
+    same("row", berth_board_row(board, (const uint8_t[]){0}, 1).number, 0);
+    same("put", (long)berth_board_put(board).struck, 3);
+    same("lowest that lives", berth_board_support(board, 4, 0, 0).row, 2);
+    same("lift", (long)berth_board_lift(board, 6).reopened, 3);
+    same("lowest again", berth_board_support(board, 4, 0, 0).row, 1);
+}
+
 /* A refusal leaves value and names; a buffer of another length is one. */
 static void refuse(struct berth_board *board) {
     static const uint8_t lift[2] = {5, 5}, counts[33] = {1};
@@ -700,6 +717,7 @@ int main(int words, char **word) {
     alter_board();
     alter_marks();
     replay(board);
+    support_lowest(board);
     draft_gaps(board);
     refuse_gaps(board);
     refuse_names(board);

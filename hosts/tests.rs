@@ -62,6 +62,22 @@ fn ask(board: &Board) {
     assert_eq!(board.support(5, 1, 0), Err(Refusal::NoSuchColumn));
 }
 
+/// Of rows with the slot in the column, the lowest that lives is given: row 1 where all three live, row 2 while row 1 is dead.
+fn support_lowest() {
+    let mut board = Board::new();
+    board.start(&[2, 3]).unwrap();
+    board.head(4, &[0, 1]).unwrap();
+    [[1, 2], [0, 1], [0, 0]].iter().for_each(|row| assert!(board.row(row).is_ok()));
+    board.put().unwrap();
+    assert_eq!(board.support(4, 0, 0), Ok(Some(1)));
+    board.head(6, &[1]).unwrap();
+    board.row(&[0]).unwrap();
+    assert_eq!(board.put().unwrap().struck, 3);
+    assert_eq!(board.support(4, 0, 0), Ok(Some(2)));
+    assert_eq!(board.lift(6).unwrap().reopened, 3);
+    assert_eq!(board.support(4, 0, 0), Ok(Some(1)));
+}
+
 /// More fields than a kind has room for are refused, and so is a command by its bytes.
 fn refuse(board: &mut Board) {
     assert_eq!(board.start(&[1; 33]), Err(Refusal::BodyLength));
@@ -549,6 +565,7 @@ fn main() {
     refuse_marks(&board);
     alter(&board);
     replay(&mut board);
+    support_lowest();
     draft_gaps();
     refuse_gaps();
     refuse_names();

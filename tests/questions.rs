@@ -120,10 +120,7 @@ impl Session<'_> {
         let Some(given) = self.answered(n, refusal, answer) else { return };
         let rule = &self.ledger.rules[&n.rule];
         let supports = |row: &[u8; 4]| row[n.column as usize] == n.slot && is_alive(rule, *row, &self.open);
-        let right = match given {
-            Some(row) => rule.rows.get(row as usize).is_some_and(supports),
-            None => !rule.rows.iter().any(supports),
-        };
-        assert!(right, "the support is {given:?}: {n:?}");
+        let lowest = rule.rows.iter().position(supports).map(|row| row as u8);
+        assert_eq!(given, lowest, "the support: {n:?}");
     }
 }

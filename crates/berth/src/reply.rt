@@ -57,7 +57,7 @@ pub struct PlaceReply {
     pub length: usize,
 }
 
-// The number of a supporting row; 255 where there is none, 254 where refused.
+// The number of the lowest supporting row; 255 where there is none, 254 where refused.
 #[repr(C)]
 pub struct SupportReply {
     pub number: u8,

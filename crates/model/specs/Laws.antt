@@ -23,4 +23,5 @@ pub mod Masks
 pub mod WrongBoards
 pub mod Entry
 pub mod Questions
+pub mod Screens
 pub mod Search

@@ -3,7 +3,7 @@
 use mathlib.Core.Path.{_≡_}
 use mathlib.Core.Bool.{Bool, _&&_, cond}
 use mathlib.Core.List.{List, [], _∷_, _++_}
-use mathlib.Core.Logic.{_↔_}
+use mathlib.Core.Logic.{_↔_, _⊎_}
 use Prim.Native.Nat.{ℕ, zero, suc, _+_, _*_, _/_, _%_, _^_, _<_}
 use lib.ListN.{length, getD, take, drop}
 use lib.Dec.{T, eqb, ltb, leb}
@@ -206,7 +206,7 @@ pub record RowBytesPromise (s : State) (p w : ℕ) (given : List ℕ) : Type 0 w
   pub equation : given ≡ rowBytesAnswer s p w
   pub answered : (L : Ledger) → LedgerShape L → Represents L s → RowBytesAnswered L s p w given
 
--- SUPPORT (SCOPE 5.5): a living row of the rule with the slot in the column, or none. The number of its answer is 0 for both
+-- SUPPORT (SCOPE 5.5): the lowest-numbered living row of the rule with the slot in the column, or none. The number of its answer is 0 for both
 abbrev pub supportNumber : Support → ℕ
 supportNumber (support.Row w) = 0
 supportNumber support.Nothing = 0
@@ -222,6 +222,10 @@ supportValues (support.Refused n) = []
 abbrev pub supports? : State → ℕ → ℕ → ℕ → ℕ → Bool
 supports? s p k t w = eqb (killerOf (s .killers) p w) 255 && eqb (getD (s .rows) (rowPlace p w k) 0) t
 
+-- the lowest of the rule's first m rows that does; m where there is none
+abbrev pub supportRow : State → ℕ → ℕ → ℕ → ℕ → ℕ
+supportRow s p k t m = first m (supports? s p k t)
+
 -- the row found among m, or none where it is m; and the same as a value
 abbrev pub foundRow : ℕ → ℕ → Support
 foundRow m w = cond (ltb w m) (support.Row w) support.Nothing
@@ -236,19 +240,38 @@ supportBy (suc n) m w = support.Refused (suc n)
 abbrev pub supportAnswer : State → ℕ → ℕ → ℕ → Support
 supportAnswer s p k t =
     let m = rowsOf (s .value .heads .lengths) p in
-    supportBy (firstOf (supportChecks s p k t)) m (first m (supports? s p k t))
+    supportBy (firstOf (supportChecks s p k t)) m (supportRow s p k t m)
 
--- what it says of the board
+-- row w of the rule supports slot t in column k: it is alive and has the slot there
+pub record SupportingRow (B : Board) (r : Rule) (k t w : ℕ) : Type 0 where
+  pub there : w < length (r .rows)
+  pub living : Alive B r w
+  pub has : slotAt r w k ≡ t
+
+-- and no lower-numbered row does
+pub record LowestSupport (B : Board) (r : Rule) (k t w : ℕ) : Type 0 where
+  pub supporting : SupportingRow B r k t w
+  pub lowest : (v : ℕ) → v < w → SupportingRow B r k t v → ⊥
+
+abbrev pub NoSupport : Board → Rule → ℕ → ℕ → Type 0
+NoSupport B r k t = (w : ℕ) → SupportingRow B r k t w → ⊥
+
+-- what it says of the board; and what its value does, 255 being no row's number
 abbrev pub SupportMeans : Board → Rule → ℕ → ℕ → Support → Type 0
-SupportMeans B r k t (support.Row w) = (w < length (r .rows)) × Alive B r w × (slotAt r w k ≡ t)
-SupportMeans B r k t support.Nothing = (w : ℕ) → w < length (r .rows) → Alive B r w → slotAt r w k ≡ t → ⊥
+SupportMeans B r k t (support.Row w) = LowestSupport B r k t w
+SupportMeans B r k t support.Nothing = NoSupport B r k t
 SupportMeans B r k t (support.Refused n) = ⊥
+
+abbrev pub SupportValueMeans : Board → Rule → ℕ → ℕ → ℕ → Type 0
+SupportValueMeans B r k t w = LowestSupport B r k t w ⊎ ((w ≡ 255) × NoSupport B r k t)
 
 pub record SupportAnswered (L : Ledger) (s : State) (p k t : ℕ) (given : Support) : Type 0 where
   pub number : supportNumber given ≡ firstOf (supportConditions L (lentOf s) p k t)
   pub values : let m = length (ruleAt (L .board) p .rows) in
-      supportValues given ≡ valuesAt (firstOf (supportConditions L (lentOf s) p k t)) (foundValue m (first m (supports? s p k t)) ∷ [])
+      supportValues given ≡ valuesAt (firstOf (supportConditions L (lentOf s) p k t)) (foundValue m (supportRow s p k t m) ∷ [])
   pub means : firstOf (supportConditions L (lentOf s) p k t) ≡ 0 → SupportMeans (L .board) (ruleAt (L .board) p) k t given
+  pub value-means : firstOf (supportConditions L (lentOf s) p k t) ≡ 0
+      → (w : ℕ) × (supportValues given ≡ w ∷ []) × SupportValueMeans (L .board) (ruleAt (L .board) p) k t w
 
 pub record SupportPromise (s : State) (p k t : ℕ) (given : Support) : Type 0 where
   pub equation : given ≡ supportAnswer s p k t

@@ -74,7 +74,7 @@ pub enum RowState {
     Refused(u8),
 }
 
-// A living row that holds a slot in a column of a rule.
+// The lowest living row that holds a slot in a column of a rule.
 pub enum Support {
     Row(u8),
     Nothing,

@@ -14,6 +14,7 @@ use lib.Dec.{T, eqb, ltb, leb, eqb→eq}
 use borrow.Author.Tests.{eqb-true, ltb-false, leb-false, lt-ltb, le-ltb, le-leb, eq-eqb, ne-eqb}
 use Rattle.model.specs.declared.answer.SlotState.the-variants as state
 use Rattle.model.specs.declared.answer.RowState.the-variants as row
+use Rattle.model.specs.declared.answer.Support.{Support}
 use Rattle.model.specs.declared.answer.Support.the-variants as support
 use Rattle.model.specs.Board.{Rule, Board, callAt, slotAt, OnBoard, InForce, Viable, Alive, Dead, Shape}
 use Rattle.model.specs.Records.{Struck, Caused, KillerIn, Recorded}
@@ -22,7 +23,7 @@ use Rattle.model.specs.Ledger.{Ledger, LedgerShape, noBoard?, notInForce
 use Rattle.model.specs.Report.{open?}
 use Rattle.model.specs.Promise.{valuesAt}
 use Rattle.model.specs.Representation.{ruleOr, ruleAt, noCalls?, Represents}
-use Rattle.model.specs.Questions.{callConditions, slotConditions, rowConditions, supportConditions, slotsHeld, callChecks, slotChecks, rowChecks, supportChecks, maskOf, slotsNumber, slotsValues, bit?, slotsBy, slotsAnswer, SlotsMeans, SlotsPromise, stateNumber, stateValues, stateBy, stateAnswer, StateMeans, StatePromise, rowNumber, rowValues, rowBy, rowAnswer, RowMeans, RowPromise, bytesBy, rowBytesAnswer, RowBytesPromise, supportNumber, supportValues, supports?, foundRow, foundValue, supportBy, supportAnswer, SupportMeans, SupportPromise}
+use Rattle.model.specs.Questions.{callConditions, slotConditions, rowConditions, supportConditions, slotsHeld, callChecks, slotChecks, rowChecks, supportChecks, maskOf, slotsNumber, slotsValues, bit?, slotsBy, slotsAnswer, SlotsMeans, SlotsPromise, stateNumber, stateValues, stateBy, stateAnswer, StateMeans, StatePromise, rowNumber, rowValues, rowBy, rowAnswer, RowMeans, RowPromise, bytesBy, rowBytesAnswer, RowBytesPromise, supportNumber, supportValues, supports?, supportRow, foundRow, foundValue, supportBy, supportAnswer, SupportingRow, SupportMeans, SupportValueMeans, SupportPromise}
 use Rattle.model.specs.Laws.Tests.{or-false, and→, →and, →T, T→, →some, →eqb, none-passes, count-same}
 use Rattle.model.specs.Laws.Theory.{open-viable, struck-caused, row-records}
 use Rattle.model.specs.Laws.Refusals.{none-holds}
@@ -49,6 +50,18 @@ first-some (suc n) f t = go (some? n f) (λ u. first-some n f u) (f n) refl t
 pub first-none : (n : ℕ) (f : ℕ → Bool) → some? n f ≡ false → first n f ≡ n
 first-none zero f e = refl
 first-none (suc n) f e = let q = or-false (some? n f) (f n) e in rw (q .0, q .1) refl
+
+-- and no lower one does
+pub first-lowest : (n : ℕ) (f : ℕ → Bool) (v : ℕ) → v < first n f → f v ≡ false
+first-lowest zero f v h = absurd (omega arith)
+first-lowest (suc n) f v h = go (true-or-false (some? n f)) (true-or-false (f n)) (λ l. first-lowest n f v l)
+  where
+    go : (some? n f ≡ true) ⊎ (some? n f ≡ false) → (f n ≡ true) ⊎ (f n ≡ false) → (v < first n f → f v ≡ false) → f v ≡ false
+    go (inl e) d ih = ih (subst (λ (b : Bool). v < cond b (first n f) (cond (f n) n (suc n))) e h)
+    go (inr e) (inl d) ih = none-passes n f e v (subst (λ (b : Bool). v < cond b n (suc n)) d (subst (λ (b : Bool). v < cond b (first n f) (cond (f n) n (suc n))) e h))
+    go (inr e) (inr d) ih =
+        ⊎-elim (λ (q : v ≡ n). rw q d) (λ l. none-passes n f e v l)
+        (eq-or-lt-of-le (le-of-suc-le-suc (subst (λ (b : Bool). v < cond b n (suc n)) d (subst (λ (b : Bool). v < cond b (first n f) (cond (f n) n (suc n))) e h))))
 
 pub first-found : (n : ℕ) (f : ℕ → Bool) (w : ℕ) → w < n → T (f w) → some? w f ≡ false → first n f ≡ w
 first-found zero f w h t e = absurd (omega arith)
@@ -220,34 +233,48 @@ module _ (L : Ledger) (shape : LedgerShape L) (s : State) (rep : Represents L s)
 
   -- A ROW SUPPORTS a slot in a column exactly where it is alive and has it there
   supports-means : (p k t w : ℕ) → p < 64 → InForce (L .board) p (ruleAt (L .board) p) → k < length (ruleAt (L .board) p .scope) → w < length (ruleAt (L .board) p .rows)
-      → T (supports? s p k t w) ↔ (Alive (L .board) (ruleAt (L .board) p) w × (slotAt (ruleAt (L .board) p) w k ≡ t))
+      → T (supports? s p k t w) ↔ SupportingRow (L .board) (ruleAt (L .board) p) k t w
   supports-means p k t w lp f lk lw =
       let alive = killer-none (L .board) (causeOf (s .slots)) (killerOf (s .killers)) (rep .stored .recorded) (shape .board) p (ruleAt (L .board) p) f w lw in
       let most = limits p in
       let byte = rep .stored .row-bytes .bytes p w k lp (omega arith) (omega arith) in
       let living = eqb (killerOf (s .killers) p w) 255 in
       let there = eqb (getD (s .rows) (256 * p + 4 * w + k) 0) t in (
-        λ h. let b = and→ living there h in (alive .0 (eqb→eq (killerOf (s .killers) p w) 255 (b .0)), sym byte ∙ eqb→eq (getD (s .rows) (256 * p + 4 * w + k) 0) t (b .1)),
-        λ h. →and living there (→eqb (killerOf (s .killers) p w) 255 (alive .1 (h .0))) (→eqb (getD (s .rows) (256 * p + 4 * w + k) 0) t (byte ∙ h .1)),
+        λ h. let b = and→ living there h in
+            record {
+              there = lw;
+              living = alive .0 (eqb→eq (killerOf (s .killers) p w) 255 (b .0));
+              has = sym byte ∙ eqb→eq (getD (s .rows) (256 * p + 4 * w + k) 0) t (b .1);
+            },
+        λ h. →and living there (→eqb (killerOf (s .killers) p w) 255 (alive .1 (h .living))) (→eqb (getD (s .rows) (256 * p + 4 * w + k) 0) t (byte ∙ h .has)),
       )
 
-  support-means : (p k t : ℕ) → p < 64 → InForce (L .board) p (ruleAt (L .board) p) → k < length (ruleAt (L .board) p .scope)
-      → SupportMeans (L .board) (ruleAt (L .board) p) k t (foundRow (length (ruleAt (L .board) p .rows)) (first (length (ruleAt (L .board) p .rows)) (supports? s p k t)))
-  support-means p k t lp f lk = go (true-or-false (some? m (supports? s p k t)))
-    where
-      m : ℕ
-      m = length (ruleAt (L .board) p .rows)
+  -- THE ROW FOUND IN RULE p, for column k and slot t, is the lowest that supports the slot; where none does, none is found
+  module _ (p k t : ℕ) (lp : p < 64) (f : InForce (L .board) p (ruleAt (L .board) p)) (lk : k < length (ruleAt (L .board) p .scope)) where
+    abbrev m : ℕ
+    m = length (ruleAt (L .board) p .rows)
 
-      go : (some? m (supports? s p k t) ≡ true) ⊎ (some? m (supports? s p k t) ≡ false)
-          → SupportMeans (L .board) (ruleAt (L .board) p) k t (foundRow m (first m (supports? s p k t)))
-      go (inl e) =
-          let found = first-some m (supports? s p k t) (→T (some? m (supports? s p k t)) e) in
-          let w = first m (supports? s p k t) in
-          let said = supports-means p k t w lp f lk (found .0) .0 (found .1) in
-          rw (lt-ltb w m (found .0)) (found .0, said .0, said .1)
-      go (inr e) =
-          rw (first-none m (supports? s p k t) e, le-ltb m m (omega arith))
-          (λ w lw alive has. true-false (T→ (supports? s p k t w) (supports-means p k t w lp f lk lw .1 (alive, has))) (none-passes m (supports? s p k t) e w lw))
+    -- the test says what holds of row v
+    supports : (v : ℕ) → SupportingRow (L .board) (ruleAt (L .board) p) k t v → supports? s p k t v ≡ true
+    supports v h = T→ (supports? s p k t v) (supports-means p k t v lp f lk (h .there) .1 h)
+
+    no-lower-passes : (v : ℕ) → v < supportRow s p k t m → supports? s p k t v ≡ false
+    no-lower-passes v l = first-lowest m (supports? s p k t) v l
+
+    support-means : SupportMeans (L .board) (ruleAt (L .board) p) k t (foundRow m (supportRow s p k t m))
+    support-means = go (true-or-false (some? m (supports? s p k t)))
+      where
+        go : (some? m (supports? s p k t) ≡ true) ⊎ (some? m (supports? s p k t) ≡ false)
+            → SupportMeans (L .board) (ruleAt (L .board) p) k t (foundRow m (supportRow s p k t m))
+        go (inl e) =
+            let found = first-some m (supports? s p k t) (→T (some? m (supports? s p k t)) e) in
+            let w = first m (supports? s p k t) in
+            rw (lt-ltb w m (found .0)) (record {
+              supporting = supports-means p k t w lp f lk (found .0) .0 (found .1);
+              lowest = λ v l h. absurd (true-false (supports v h) (no-lower-passes v l));
+            })
+        go (inr e) =
+            rw (first-none m (supports? s p k t) e, le-ltb m m (omega arith)) (λ w h. absurd (true-false (supports w h) (none-passes m (supports? s p k t) e w (h .there))))
 
 -- AN ANSWER'S NUMBER is that of the refusal, and its values go with it
 slots-number : (n : ℕ) (bytes : List ℕ) (c : ℕ) → slotsNumber (slotsBy n bytes c) ≡ n
@@ -366,20 +393,34 @@ row-bytes-promise s p w =
           };
     }
 
+-- the value of an answer says what the answer does
+value-means : (B : Board) (r : Rule) (k t : ℕ) (a : Support) → SupportMeans B r k t a → (w : ℕ) × (supportValues a ≡ w ∷ []) × SupportValueMeans B r k t w
+value-means B r k t (support.Row w) m = (w, refl, inl m)
+value-means B r k t support.Nothing m = (255, refl, inr (refl, m))
+value-means B r k t (support.Refused n) m = absurd m
+
 pub support-promise : (s : State) (p k t : ℕ) → SupportPromise s p k t (supportAnswer s p k t)
 support-promise s p k t =
     record {
       equation = refl;
       answered = λ L shape rep. let e = support-checks L shape s rep p k t in
           record {
-            number = support-number (firstOf (supportChecks s p k t)) (rowsOf (s .value .heads .lengths) p) (first (rowsOf (s .value .heads .lengths) p) (supports? s p k t)) ∙ e;
-            values = support-values (firstOf (supportChecks s p k t)) (rowsOf (s .value .heads .lengths) p) (first (rowsOf (s .value .heads .lengths) p) (supports? s p k t))
-                ∙ ap (λ (m : ℕ). valuesAt (firstOf (supportChecks s p k t)) (foundValue m (first m (supports? s p k t)) ∷ [])) (rows-held L shape s rep p)
-                ∙ ap (λ (n : ℕ). valuesAt n (foundValue (length (ruleAt (L .board) p .rows)) (first (length (ruleAt (L .board) p .rows)) (supports? s p k t)) ∷ [])) e;
-            means = λ z. let there = column-there L shape s rep p k t z in
-                subst (λ (n : ℕ). SupportMeans (L .board) (ruleAt (L .board) p) k t (supportBy n (rowsOf (s .value .heads .lengths) p) (first (rowsOf (s .value .heads .lengths) p) (supports? s p k t))))
-                (sym (e ∙ z))
-                (subst (λ (m : ℕ). SupportMeans (L .board) (ruleAt (L .board) p) k t (foundRow m (first m (supports? s p k t)))) (sym (rows-held L shape s rep p))
-                (support-means L shape s rep p k t (there .0) (there .1) (there .2)));
+            number = support-number (firstOf (supportChecks s p k t)) held (supportRow s p k t held) ∙ e;
+            values = support-values (firstOf (supportChecks s p k t)) held (supportRow s p k t held)
+                ∙ ap (λ (m : ℕ). valuesAt (firstOf (supportChecks s p k t)) (foundValue m (supportRow s p k t m) ∷ [])) (rows-held L shape s rep p)
+                ∙ ap (λ (n : ℕ). valuesAt n (foundValue (length (ruleAt (L .board) p .rows)) (supportRow s p k t (length (ruleAt (L .board) p .rows))) ∷ [])) e;
+            means = λ z. means L shape rep z;
+            value-means = λ z. value-means (L .board) (ruleAt (L .board) p) k t (supportAnswer s p k t) (means L shape rep z);
           };
     }
+  where
+    held : ℕ
+    held = rowsOf (s .value .heads .lengths) p
+
+    means : (L : Ledger) → LedgerShape L → Represents L s → firstOf (supportConditions L (lentOf s) p k t) ≡ 0
+        → SupportMeans (L .board) (ruleAt (L .board) p) k t (supportAnswer s p k t)
+    means L shape rep z =
+        let there = column-there L shape s rep p k t z in
+        subst (λ (n : ℕ). SupportMeans (L .board) (ruleAt (L .board) p) k t (supportBy n held (supportRow s p k t held))) (sym (support-checks L shape s rep p k t ∙ z))
+        (subst (λ (m : ℕ). SupportMeans (L .board) (ruleAt (L .board) p) k t (foundRow m (supportRow s p k t m))) (sym (rows-held L shape s rep p))
+        (support-means L shape s rep p k t (there .0) (there .1) (there .2)))

@@ -236,8 +236,12 @@ module _ (s : Whole) (given : Answer) (s′ : Whole) where
   unfolding active? live?
   not-none-with-support last m =
       let L = ledgerLast p1 in
-      m .answered L (shape-after p1 s given s′ last) (after p1 s given s′ last) .means (ap (λ (l : Lent). firstOf (supportConditions L l 0 0 0)) (lent-after p1 s given s′ last)) 0 (lit< tt)
-      (λ k n. found-viable (L .board) (callAt (ruleAt (L .board) 0) k) (slotAt (ruleAt (L .board) 0) 0 k) .0 (within→ (L .board) (ruleAt (L .board) 0) (openOf (L .board)) 0 tt k n)) refl
+      m .answered L (shape-after p1 s given s′ last) (after p1 s given s′ last) .means (ap (λ (l : Lent). firstOf (supportConditions L l 0 0 0)) (lent-after p1 s given s′ last)) 0
+      (record {
+        there = lit< tt;
+        living = λ k n. found-viable (L .board) (callAt (ruleAt (L .board) 0) k) (slotAt (ruleAt (L .board) 0) 0 k) .0 (within→ (L .board) (ruleAt (L .board) 0) (openOf (L .board)) 0 tt k n);
+        has = refl;
+      })
 
   -- THE WRONG TURNS (SCOPE 9). 9.1: P4's two slots are left struck, each waiting for the other
   pub not-waiting : Last p4Retract s given s′ → causeOf (s′ .marked .state .slots) 0 1 < 64 → causeOf (s′ .marked .state .slots) 1 1 < 64 → ⊥

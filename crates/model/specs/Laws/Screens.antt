@@ -1,0 +1,68 @@
+-- SCREENS ON DIFFERENT DESKS SHOW THE SAME ROW (SCOPE 5.5): what an answer to the support question means leaves room for one answer, whatever causes and killers
+-- the board's history left. The proof reads the answers' numbers and meanings, never their equations. Assumes nothing.
+use mathlib.Core.Path.{_≡_, refl, sym, ap, subst, _∙_}
+use mathlib.Core.List.{List}
+use mathlib.Core.Logic.{_⊎_, inl, inr, ⊎-elim}
+use Prim.Native.Nat.{ℕ, zero, suc, _<_, _≤_}
+use native.Mathlib.Omega.{arith}
+use native.Mathlib.Nat.{eq-or-lt-of-le}
+use Rattle.model.specs.declared.answer.Support.{Support}
+use Rattle.model.specs.declared.answer.Support.the-variants as support
+use Rattle.model.specs.Board.{Rule, Board}
+use Rattle.model.specs.Ledger.{Ledger, LedgerShape, Member, fresh, run}
+use Rattle.model.specs.Refusals.{firstOf}
+use Rattle.model.specs.Representation.{ruleAt, Represents}
+use Rattle.model.specs.Questions.{supportConditions, supportNumber, SupportMeans, SupportPromise}
+use Rattle.model.specs.Lists.{After}
+use Rattle.model.specs.Laws.Lists.{runs-represent}
+use Rattle.layout.specs.Memory.{State, Whole, lentOf}
+use Rattle.layout.specs.Sizes.{Lent, rowsLength, killersLength, slotsLength}
+use Rattle.tables.specs.Laws.Facts.{lt-or-le}
+
+-- two answers that say what they mean of one rule, column and slot
+pub one-support : (B : Board) (r : Rule) (k t : ℕ) (a b : Support) → SupportMeans B r k t a → SupportMeans B r k t b → a ≡ b
+one-support B r k t (support.Row w) (support.Row v) m n = ap support.Row (same (lt-or-le w v))
+  where
+    same : (w < v) ⊎ (v ≤ w) → w ≡ v
+    same (inl l) = absurd (n .lowest w l (m .supporting))
+    same (inr le) = ⊎-elim sym (λ l. absurd (m .lowest v l (n .supporting))) (eq-or-lt-of-le le)
+one-support B r k t (support.Row w) support.Nothing m n = absurd (n w (m .supporting))
+one-support B r k t support.Nothing (support.Row v) m n = absurd (m v (n .supporting))
+one-support B r k t support.Nothing support.Nothing m n = refl
+one-support B r k t (support.Refused i) b m n = absurd m
+one-support B r k t (support.Row w) (support.Refused i) m n = absurd n
+one-support B r k t support.Nothing (support.Refused i) m n = absurd n
+
+-- two that are refused under one number
+one-refusal : (n : ℕ) (a b : Support) → supportNumber a ≡ suc n → supportNumber b ≡ suc n → a ≡ b
+one-refusal n (support.Refused i) (support.Refused j) e d = ap support.Refused (e ∙ sym d)
+one-refusal n (support.Row w) b e d = absurd (omega arith)
+one-refusal n support.Nothing b e d = absurd (omega arith)
+one-refusal n (support.Refused i) (support.Row v) e d = absurd (omega arith)
+one-refusal n (support.Refused i) support.Nothing e d = absurd (omega arith)
+
+-- TWO STATES OF ONE BOARD
+pub same-support : (L L′ : Ledger) (s s′ : State) → LedgerShape L → Represents L s → LedgerShape L′ → Represents L′ s′ → L .board ≡ L′ .board
+    → (p k t : ℕ) (a b : Support) → SupportPromise s p k t a → SupportPromise s′ p k t b → a ≡ b
+same-support L L′ s s′ shape rep shape′ rep′ board p k t a b m n = go (firstOf (supportConditions L (lentOf s) p k t)) refl
+  where
+    lengths : (L : Ledger) (s : State) → Represents L s → lentOf s ≡ record { rows = rowsLength; killers = killersLength; slots = slotsLength }
+    lengths L s rep = rw (rep .stored .row-bytes .rows-size, rep .stored .killers-size, rep .stored .slots-size) refl
+
+    alike : firstOf (supportConditions L′ (lentOf s′) p k t) ≡ firstOf (supportConditions L (lentOf s) p k t)
+    alike =
+        ap (λ (l : Lent). firstOf (supportConditions L′ l p k t)) (lengths L′ s′ rep′ ∙ sym (lengths L s rep)) ∙ rw (← board) refl
+
+    go : (i : ℕ) → firstOf (supportConditions L (lentOf s) p k t) ≡ i → a ≡ b
+    go zero z =
+        one-support (L .board) (ruleAt (L .board) p) k t a b (m .answered L shape rep .means z)
+        (subst (λ (B : Board). SupportMeans B (ruleAt B p) k t b) (sym board) (n .answered L′ shape′ rep′ .means (alike ∙ z)))
+    go (suc i) z = one-refusal i a b (m .answered L shape rep .number ∙ z) (n .answered L′ shape′ rep′ .number ∙ alike ∙ z)
+
+-- AFTER ANY TWO LISTS that end with the same counts and rules, row for row, whatever else the lists did
+pub screens-agree : {first first′ : List ℕ} (ms ms′ : List Member) (s s′ : Whole) → After first ms s → After first′ ms′ s′ → run fresh ms .board ≡ run fresh ms′ .board
+    → (p k t : ℕ) (a b : Support) → SupportPromise (s .marked .state) p k t a → SupportPromise (s′ .marked .state) p k t b → a ≡ b
+screens-agree ms ms′ s s′ after after′ board =
+    let is = runs-represent ms s after in
+    let is′ = runs-represent ms′ s′ after′ in
+    same-support (run fresh ms) (run fresh ms′) (s .marked .state) (s′ .marked .state) (is .0) (is .1 .state) (is′ .0) (is′ .1 .state) board
