@@ -3,7 +3,7 @@
 //! command of the library leaves the summary table current, too, in the time that is measured; the others have no such table.
 //!
 //! Gap rules are measured apart from these: each is one command of the library, against the head and the rows of the same draft. So are marks and backs of order
-//! 13's board, and commands that have next to nothing to do, of the library alone.
+//! 13's board, cancellations, and commands that have next to nothing to do, of the library alone.
 #[path = "../hosts/berth.rs"]
 mod berth;
 
@@ -446,6 +446,39 @@ fn measure_marks(clock: u64) {
     }
 }
 
+/// Each call of a board is cancelled by itself, with all rules in force. A back, which is not timed, undoes it, and has to show the open slots from before.
+fn measure_cancellation(case: &Case, clock: u64) {
+    let mut side = Ours::start(case);
+    put_all(&mut side, case);
+    side.board.mark(0).unwrap();
+    let full = side.shown();
+    let ones = |shown: [u32; 32]| shown.iter().map(|open| open.count_ones() as usize).sum::<usize>();
+    let mut times = vec![vec![]; case.counts.len()];
+    let mut changes = Changes::default();
+    for _ in 0..case.rounds {
+        for (call, times) in times.iter_mut().enumerate() {
+            let mut report = berth::Report::default();
+            timed(times, || report = side.board.cancel(call as u8).unwrap());
+            changes.reopened += report.reopened;
+            changes.touched += report.touched;
+            let due = ones(full) - full[call].count_ones() as usize + report.reopened;
+            assert!(ones(side.shown()) == due, "{}: other open slots without call {call}", case.name);
+            side.board.back(0).unwrap();
+            assert!(side.shown() == full, "{}: other open slots after a back", case.name);
+        }
+    }
+    let each = |n: usize| n as f64 / (case.counts.len() * case.rounds) as f64;
+    let slots = format!("{:.1} reopened of {:.1} touched", each(changes.reopened), each(changes.touched));
+    println!("| {:12} | {slots:31} | {:9.0} |", case.name, mean(&times, clock));
+}
+
+fn measure_cancellations(clock: u64) {
+    println!("Nanoseconds per cancellation, the mean over the board's calls of each one's median; reading the clock, {clock} ns, is taken off.\n");
+    println!("| {:12} | {:31} | {:>9} |", "board", "slots, per command", "library");
+    println!("|--------------|---------------------------------|-----------|");
+    [busiest(), dense("dense", 24, 60), long_chain(), busy_day()].iter().for_each(|case| measure_cancellation(case, clock));
+}
+
 /// So many are timed in a row, since one of them takes about as long as reading the clock.
 const IN_A_ROW: u64 = 1000;
 
@@ -477,8 +510,12 @@ fn measure_small_commands(clock: u64) {
 }
 
 /// What is measured besides the boards, by its name among theirs.
-const OTHERS: [(&str, fn(u64)); 3] =
-    [("gap rules", measure_gap_rules), ("marks", measure_marks), ("small commands", measure_small_commands)];
+const OTHERS: [(&str, fn(u64)); 4] = [
+    ("gap rules", measure_gap_rules),
+    ("marks", measure_marks),
+    ("cancellations", measure_cancellations),
+    ("small commands", measure_small_commands),
+];
 
 /// The boards of this name, or all where it is empty. A name that nothing has ends the program with the list of them.
 fn chosen(name: &str) -> Vec<Case> {

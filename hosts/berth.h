@@ -19,19 +19,21 @@
  *                    command writes here, and only its own name, and a board command and a replay, which forget both.
  *   rows     16,384  row w of rule r fills four bytes from 256 * r + 4 * w: a slot for each column, 255 in a spare column. Rows beyond a rule's last, and
  *                    rules out of force, hold 255.
- *   killers   4,096  byte 64 * r + w is the column (0 to 3) of a struck slot in row w of rule r where that row is dead, else 255.
- *   slots     1,024  byte 32 * call + slot is 255 for an open slot, 254 for one that is not on the board, else its cause: the number of a rule on its call.
+ *   killers   4,096  byte 64 * r + w is the column (0 to 3) of a struck slot in row w of rule r where that row is dead, else 255. The
+ *                    column of a cancelled call kills no row.
+ *   slots     1,024  byte 32 * call + slot is 255 for an open slot, 254 for one that is not on the board, 253 for one of a cancelled call, which is neither open
+ *                    nor struck, else its cause: the number of a rule on its call. No other byte says that a call is cancelled.
  *   marks    43,008  two marks of 21,504 bytes, that of name 0 first: the three buffers above, in their order, of the board that is kept under the name. Only a
  *                    mark command writes here, and only its own name's half; where nothing is kept the bytes are any.
  *   table        96  record c, of three bytes, has the figures of call c: its open slots, its struck slots, and the rules in force on it. A call that is not on
- *                    the board has zeros.
+ *                    the board has zeros; a cancelled one has no open and no struck slot, and the rules on it are counted as ever.
  * Before the first command rows, killers, slots and table hold 255, 255, 254 and 0 throughout, and the marks anything, beside the value and the names of
- * berth_fresh(). As long as only commands write value, names and buffers, what is open is arc consistent under the rules in force, and no larger set of slots is;
- * and a command that is accepted brings all of the table up to date, whatever it held. If the host alters any of it, a mark or its name among it, functions still
- * return, stay inside and change nothing when they refuse; of an altered mark, a back brings back what it finds.
+ * berth_fresh(). As long as only commands write value, names and buffers, what is open is arc consistent under the rules in force, taken without the columns of
+ * cancelled calls, and no larger set of slots is; and a command that is accepted brings all of the table up to date, whatever it held. If the host alters any of
+ * it, a mark or its name among it, functions still return, stay inside and change nothing when they refuse; of an altered mark, a back brings back what it finds.
  *
  * A command is one byte of kind and a body:
- *   1 board  32 slot counts, 0 after the last call      a new board, without rules, draft and marks
+ *   1 board  32 slot counts, 0 after the last call      a new board, without rules, draft, marks and cancelled calls
  *   2 head   number, arity (1 to 4), four calls         a draft of a rule, in place of any other
  *   3 row    four slots                                 one more row of the draft
  *   4 put    nothing                                    brings the draft into force, and leaves no draft
@@ -39,7 +41,13 @@
  *   6 gap    form, number, first and second call, gap   a draft of a gap rule with its rows, in place of any other
  *   7 mark   name (0 or 1)                              keeps the board under the name, in place of any other; the draft stays
  *   8 back   name                                       brings the board under the name back, and leaves no draft; the mark stays kept
- * Calls and slots past the arity are 255. A mark keeps calls, rules, rows and slots, causes and killers.
+ *   9 cancel call                                       cancels the call until the next board command; the draft stays
+ * Calls and slots past the arity are 255. A mark keeps calls, rules, rows and slots, causes and killers, and which calls are cancelled: a back may cancel some
+ * and uncancel others.
+ *
+ * The column of a cancelled call counts in no row: a row lives as long as its slots in the other columns are open. A rule all of whose calls are cancelled binds
+ * nothing; one without rows strikes its other calls. A new rule cannot be on a cancelled call, but a draft from before can get more rows, with any slot that the
+ * call had, and be put.
  *
  * A gap rule is on two calls. Its rows are all pairs of slots, a of the first call and b of the second, that fit its form, in rising order of a, then of b:
  *   1 before  a + gap is at most b
@@ -74,19 +82,29 @@ extern "C" {
 
 /*
  * The stack that a call needs, with the copies of the value that the questions are handed. It is measured and not proved: on x86-64, over every function and the
- * commands of a full board, hosts/stack.c found 5,992 bytes where it was compiled without optimisation, 6,264 with -O2, and 6,648, the most, with -O3.
+ * commands of a full board, hosts/stack.c found 6,216 bytes where it was compiled without optimisation, 6,824 with -O2, and 7,032, the most, with -O3.
  */
 #define BERTH_STACK 12288
 
 /* The version that this header is of. It rises with any change of a struct, of a function or of what one means. */
-#define BERTH_VERSION 7
+#define BERTH_VERSION 8
 
 /* The version of the library, and the bytes of its value and names. They are plain numbers, so that they can be asked whatever else differs. */
 uint32_t berth_version(void);
 size_t berth_value_size(void);
 
 /* The kinds of commands. */
-enum berth_kind { BERTH_BOARD = 1, BERTH_HEAD = 2, BERTH_ROW = 3, BERTH_PUT = 4, BERTH_LIFT = 5, BERTH_GAP = 6, BERTH_MARK = 7, BERTH_BACK = 8 };
+enum berth_kind {
+    BERTH_BOARD = 1,
+    BERTH_HEAD = 2,
+    BERTH_ROW = 3,
+    BERTH_PUT = 4,
+    BERTH_LIFT = 5,
+    BERTH_GAP = 6,
+    BERTH_MARK = 7,
+    BERTH_BACK = 8,
+    BERTH_CANCEL = 9
+};
 
 /* The forms of gap rules. */
 enum berth_form { BERTH_BEFORE = 1, BERTH_APART = 2, BERTH_SAME = 3 };
@@ -122,7 +140,9 @@ enum berth_refusal {
     BERTH_BAD_GAP = 24,
     BERTH_TOO_MANY_PAIRS = 25,
     BERTH_NAME_OVER_1 = 26,
-    BERTH_NOTHING_KEPT = 27
+    BERTH_NOTHING_KEPT = 27,
+    BERTH_ALREADY_CANCELLED = 28,
+    BERTH_CANCELLED_CALL = 29
 };
 
 /* The condition that a refusal's number stands for. */
@@ -155,6 +175,8 @@ static inline const char *berth_refusal_text(uint8_t number) {
     case BERTH_TOO_MANY_PAIRS: return "more than 64 pairs of slots fit";
     case BERTH_NAME_OVER_1: return "the mark's name is over 1";
     case BERTH_NOTHING_KEPT: return "nothing is kept under the name";
+    case BERTH_ALREADY_CANCELLED: return "the call is cancelled already";
+    case BERTH_CANCELLED_CALL: return "a call of the new rule is cancelled";
     default: return "no refusal has this number";
     }
 }
@@ -201,9 +223,9 @@ struct berth_marked_value {
 
 /* The figures of a call: a record of the summary table. */
 struct berth_summary {
-    uint8_t open;   /* its open slots */
-    uint8_t struck; /* its struck slots */
-    uint8_t rules;  /* the rules in force on it */
+    uint8_t open;   /* its open slots; 0 where it is cancelled */
+    uint8_t struck; /* its struck slots; 0 where it is cancelled */
+    uint8_t rules;  /* the rules in force on it, cancelled or not */
 };
 
 /* The compiler leaves no room between the fields. */
@@ -222,13 +244,15 @@ struct berth_marked_value berth_fresh(void);
  * A command. The value, the two names, the buffers and the table are written in place; where it is refused, all of them stay as they were. None of them may
  * overlap another or the command's bytes. Of the names an accepted mark writes its own, an accepted board both, and any other kind neither.
  * Checked, by kind: 1, 22, 3, 4, then
- *   board 5; head 6, 7, 8, 9, 10, 11; row 6, 12, 13, 14, 11, 15; put 6, 12, 16; lift 6, 7, 17; gap 6, 7, 23, 9, 10, 24, 25; mark 6, 26; back 6, 26, 27.
+ *   board 5; head 6, 7, 8, 9, 29, 10, 11; row 6, 12, 13, 14, 11, 15; put 6, 12, 16; lift 6, 7, 17; gap 6, 7, 23, 9, 29, 10, 24, 25; mark 6, 26; back 6, 26, 27;
+ *   cancel 6, 18, 28.
+ * A slot of a call that is cancelled, before the command or after it, is in none of the three counts: so a cancel strikes nothing.
  */
 struct berth_command_reply {
     size_t struck;   /* S: slots open before and struck after */
     size_t reopened; /* R: slots struck before and open after */
-    size_t touched;  /* T: of a put S; of a lift at least R, and at most the slots struck before; of a back S + R */
-    uint8_t number;  /* 0, or the refusal; S, R and T are 0 then, and for all kinds but put, lift and back */
+    size_t touched;  /* T: of a put S; of a lift or a cancel at least R, and at most the slots struck before, of a cancel those of other calls; of a back S + R */
+    uint8_t number;  /* 0, or the refusal; S, R and T are 0 then, and for all kinds but put, lift, back and cancel */
 };
 
 struct berth_command_reply berth_command(struct berth_value *value, struct berth_name *names, const uint8_t *bytes, size_t bytes_length, uint8_t *rows,
@@ -263,8 +287,8 @@ static inline struct berth_replay_reply berth_fresh_board(struct berth_value *va
  * The slots of a call. Checked: 1, 6, 18.
  */
 struct berth_slots_reply {
-    uint32_t mask;  /* bit s is set exactly for an open slot s; 0 where refused */
-    uint32_t ones;  /* the number of open slots; 0 where refused */
+    uint32_t mask;  /* bit s is set exactly for an open slot s; 0 where refused, and of a cancelled call */
+    uint32_t ones;  /* the number of open slots; 0 where refused, and of a cancelled call */
     uint8_t number; /* 0, or the refusal */
 };
 
@@ -274,7 +298,7 @@ struct berth_slots_reply berth_open_slots(struct berth_value value, const uint8_
 /* The state of a slot. Checked: 1, 6, 18, 19. */
 struct berth_state_reply {
     uint8_t number; /* 0, or the refusal */
-    uint8_t cause;  /* 255 open; else the cause; 254 where refused */
+    uint8_t cause;  /* 255 open; 253 cancelled, with its call; else the cause; 254 where refused */
 };
 
 struct berth_state_reply berth_slot_state(struct berth_value value, const uint8_t *rows, size_t rows_length, const uint8_t *killers, size_t killers_length,
@@ -301,7 +325,7 @@ struct berth_place_reply berth_row_place(struct berth_value value, const uint8_t
 /* The lowest-numbered living row of the rule with the slot in the column: one answer for one board, however it came about. Checked: 1, 6, 7, 17, 21, 19. */
 struct berth_support_reply {
     uint8_t number; /* 0, or the refusal */
-    uint8_t row;    /* the row's number; 255 where there is none; 254 where refused */
+    uint8_t row;    /* the row's number; 255 where there is none, as in every column of a cancelled call; 254 where refused */
 };
 
 struct berth_support_reply berth_support(struct berth_value value, const uint8_t *rows, size_t rows_length, const uint8_t *killers, size_t killers_length,
@@ -416,6 +440,10 @@ static inline struct berth_command_bytes berth_make_back(uint8_t name) {
     return berth_make_filled(berth_make_blank(BERTH_BACK, 2, 0), 1, &name, 1);
 }
 
+static inline struct berth_command_bytes berth_make_cancel(uint8_t call) {
+    return berth_make_filled(berth_make_blank(BERTH_CANCEL, 2, 0), 1, &call, 1);
+}
+
 static inline struct berth_command_reply berth_board_obey(struct berth_board *board, struct berth_command_bytes made) {
     return berth_board_command(board, made.bytes, made.length);
 }
@@ -451,6 +479,10 @@ static inline struct berth_command_reply berth_board_mark(struct berth_board *bo
 
 static inline struct berth_command_reply berth_board_back(struct berth_board *board, uint8_t name) {
     return berth_board_obey(board, berth_make_back(name));
+}
+
+static inline struct berth_command_reply berth_board_cancel(struct berth_board *board, uint8_t call) {
+    return berth_board_obey(board, berth_make_cancel(call));
 }
 
 /* The record of a call, read from the board's table; zeros for a call that is not on the board. */

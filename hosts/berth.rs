@@ -20,7 +20,7 @@ pub const RECORDS: usize = 32;
 pub const FILE: usize = 32768;
 
 /// The version that this file is of; the library has its own.
-pub const VERSION: u32 = 7;
+pub const VERSION: u32 = 8;
 
 /// The calls and the heads of the rules in force.
 #[repr(C)]
@@ -83,7 +83,8 @@ pub struct MarkedValue {
     pub names: [Name; 2],
 }
 
-/// The figures of a call: a record of the summary table. A call that is not on the board has zeros.
+/// The figures of a call: a record of the summary table. A call that is not on the board has zeros; a cancelled one has no slots, and the rules on it are
+/// counted.
 #[repr(C)]
 #[derive(Clone, Copy, Debug, Default, PartialEq, Eq)]
 pub struct Summary {
@@ -161,6 +162,8 @@ refusals! {
     25 TooManyPairs "more than 64 pairs of slots fit"
     26 NameOver1 "the mark's name is over 1"
     27 NothingKept "nothing is kept under the name"
+    28 AlreadyCancelled "the call is cancelled already"
+    29 CancelledCall "a call of the new rule is cancelled"
 }
 
 impl fmt::Display for Refusal {
@@ -182,14 +185,15 @@ pub enum Form {
     Same = 3,
 }
 
-/// What an accepted command changed.
+/// What an accepted command changed. A slot of a cancelled call is neither open nor struck, so it is in no count.
 #[derive(Clone, Copy, Debug, Default, PartialEq, Eq)]
 pub struct Report {
     /// slots open before and struck after
     pub struck: usize,
     /// slots struck before and open after
     pub reopened: usize,
-    /// of a put the slots struck; of a lift at least those reopened, and at most those struck before; of a back those struck and those reopened
+    /// of a put the slots struck; of a lift or a cancellation at least those reopened, and at most those struck before, without the cancelled call's own; of a
+    /// back those struck and those reopened
     pub touched: usize,
 }
 
@@ -209,10 +213,12 @@ pub struct OpenSlots {
     pub ones: u32,
 }
 
+/// The state of a slot. It is cancelled with its call, and then neither open nor struck.
 #[derive(Clone, Copy, Debug, PartialEq, Eq)]
 pub enum Slot {
     Open,
     Struck { cause: u8 },
+    Cancelled,
 }
 
 #[derive(Clone, Copy, Debug, PartialEq, Eq)]
@@ -432,6 +438,7 @@ pub mod lent {
             let reply = ask!(berth_slot_state, self, call, slot);
             let given = match reply.byte {
                 255 => Slot::Open,
+                253 => Slot::Cancelled,
                 cause => Slot::Struck { cause },
             };
             answer(reply.number, given)
@@ -452,7 +459,7 @@ pub mod lent {
             &self.rows[reply.place..reply.place + reply.length]
         }
 
-        /// The lowest-numbered living row with the slot in the rule's column.
+        /// The lowest-numbered living row with the slot in the rule's column; none in the column of a cancelled call.
         pub fn support(self, rule: u8, column: u8, slot: u8) -> Answer<Option<u8>> {
             let reply = ask!(berth_support, self, rule, column, slot);
             let given = match reply.byte {
@@ -516,7 +523,7 @@ impl Board {
         lent::replay(value, names, file, rows, killers, slots, marks, table)
     }
 
-    /// Kind 1: a new board with these slot counts, of at most 32 calls; rules, draft and both marks are gone.
+    /// Kind 1: a new board with these slot counts, of at most 32 calls; rules, draft, cancellations and both marks are gone.
     pub fn start(&mut self, counts: &[u8]) -> Answer<Report> {
         self.command(&filled(&[1], counts, 33, 0))
     }
@@ -552,9 +559,15 @@ impl Board {
         self.command(&[7, name])
     }
 
-    /// Kind 8: the board that is kept under the name is brought back, without a draft. It stays kept.
+    /// Kind 8: the board that is kept under the name is brought back, with the cancellations of its mark and without a draft. It stays kept.
     pub fn back(&mut self, name: u8) -> Answer<Report> {
         self.command(&[8, name])
+    }
+
+    /// Kind 9: the call is cancelled, until a new board or a back to a mark where it was not. Its column counts in no row any more; the draft stays, and can be
+    /// put.
+    pub fn cancel(&mut self, call: u8) -> Answer<Report> {
+        self.command(&[9, call])
     }
 
     /// The figures of a call; zeros where it is not on the board.
@@ -582,7 +595,7 @@ impl Board {
         &self.marks
     }
 
-    /// The open slots of a call.
+    /// The open slots of a call; of a cancelled one none.
     pub fn open_slots(&self, call: u8) -> Answer<OpenSlots> {
         self.memory().open_slots(call)
     }
@@ -600,7 +613,7 @@ impl Board {
         self.memory().row_bytes(rule, row)
     }
 
-    /// The lowest-numbered living row with the slot in the rule's column.
+    /// The lowest-numbered living row with the slot in the rule's column; none in the column of a cancelled call.
     pub fn support(&self, rule: u8, column: u8, slot: u8) -> Answer<Option<u8>> {
         self.memory().support(rule, column, slot)
     }

@@ -1,6 +1,6 @@
-/* The worked session of docs/SCOPE.md on a board of a C host, and behind it a gap rule that is tried between a mark and a back: a line for each command, as the
-   sheet program writes it, and after puts, lifts and the back the open slots of every call and its figures from the summary table. What was refused, and why, goes
-   to standard error. */
+/* The worked session of docs/SCOPE.md on a board of a C host, behind it a gap rule that is tried between a mark and a back, and a call that is cancelled: a line for
+   each command, as the sheet program writes it, and after puts, lifts, the back and the cancellation the open slots of every call and its figures from the summary
+   table. What was refused, and why, goes to standard error. */
 #include "berth.h"
 #include <stdio.h>
 
@@ -19,6 +19,8 @@ static void print_calls(const struct berth_board *board) {
         if (reply.number != 0)
             return;
         printf("c %d", call);
+        if (berth_board_slot_state(board, call, 0).cause == 253)
+            printf(" -"); /* the call is cancelled */
         for (int slot = 0; slot < 32; slot++)
             if (reply.mask >> slot & 1)
                 printf(" %d", slot);
@@ -54,6 +56,8 @@ int main(void) {
     print_reply(BERTH_PUT, berth_board_put(&board));
     print_calls(&board);
     print_reply(BERTH_BACK, berth_board_back(&board, 0));
+    print_calls(&board);
+    print_reply(BERTH_CANCEL, berth_board_cancel(&board, 1));
     print_calls(&board);
     printf("end\n");
     return 0;

@@ -1,9 +1,9 @@
-//! The worked session of docs/SCOPE.md on a board of a Rust host, and behind it a gap rule that is tried between a mark and a back: a line for each command, as
-//! the sheet program writes it, and after puts, lifts and the back the open slots of every call and its figures from the summary table. What was refused, and
-//! why, goes to standard error.
+//! The worked session of docs/SCOPE.md on a board of a Rust host, behind it a gap rule that is tried between a mark and a back, and a call that is cancelled: a line
+//! for each command, as the sheet program writes it, and after puts, lifts, the back and the cancellation the open slots of every call and its figures from the
+//! summary table. What was refused, and why, goes to standard error.
 mod berth;
 
-use berth::{Answer, Board, Form, Report};
+use berth::{Answer, Board, Form, Report, Slot};
 
 fn print_answer(kind: u8, answer: Answer<Report>) {
     match answer {
@@ -21,6 +21,9 @@ fn print_calls(board: &Board) {
             return;
         };
         print!("c {}", call);
+        if board.slot_state(call, 0) == Ok(Slot::Cancelled) {
+            print!(" -");
+        }
         for slot in (0..32).filter(|slot| open.mask >> slot & 1 == 1) {
             print!(" {}", slot);
         }
@@ -51,6 +54,8 @@ fn main() {
     print_answer(4, board.put());
     print_calls(&board);
     print_answer(8, board.back(0));
+    print_calls(&board);
+    print_answer(9, board.cancel(1));
     print_calls(&board);
     println!("end");
 }

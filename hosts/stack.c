@@ -1,6 +1,6 @@
 /* Measures the stack that the library's functions need, which no contract speaks of: a thread paints its stack, sends a command or asks the questions, and
-   looks how deep the paint is gone. The board is the largest, and its commands strike, reopen, keep boards, bring them back, and refuse; in the end they are
-   replayed as a file. Fails where it is more than the header says. */
+   looks how deep the paint is gone. The board is the largest, and its commands strike, reopen, keep boards, bring them back, cancel calls, and refuse; in the end
+   they are replayed as a file. Fails where it is more than the header says. */
 #define _XOPEN_SOURCE 700
 #include "berth.h"
 #include <pthread.h>
@@ -86,8 +86,20 @@ static void back_and_mark(void) {
     }
 }
 
+/* Each call is cancelled, and then it cannot be; nor can the one past the last. The first, on which all strikes lean, reopens those of the others. No rule can be on
+   one then. */
+static void cancel_calls(void) {
+    for (uint8_t call = 0; call <= 32; call++) {
+        command(berth_make_cancel(call));
+        questions(call);
+        command(berth_make_cancel(call));
+    }
+    command(berth_make_head(62, (const uint8_t[]){0, 1, 2, 3}, 4));
+    command(berth_make_gap(BERTH_SAME, 62, 0, 31, 0));
+}
+
 /* Rules of four neighbours, twice over; beside them gap rules one by one, and then a rule that leaves a single slot of each call, put and lifted. The board without
-   this rule is kept, and brought back in the end, when nothing is in force. */
+   this rule is kept, and brought back when nothing is in force. In the end it is put once more, and the calls are cancelled. */
 static void *session(void *nothing) {
     uint8_t counts[33];
     memset(counts, 32, sizeof counts);
@@ -114,6 +126,9 @@ static void *session(void *nothing) {
     questions(0);
     back_and_mark();
     questions(0);
+    rule(63, (const uint8_t[]){0}, 1, 1);
+    cancel_calls();
+    back_and_mark();
     command(berth_make_board(counts, 33));
     replay();
     return nothing;

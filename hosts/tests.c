@@ -100,7 +100,7 @@ static void same_bytes(const char *what, struct berth_command_bytes made, const 
 static void build(void) {
     static const uint8_t fields[34] = {3, 1, 2, 0}, board[33] = {1, 3, 1, 2}, whole[33] = {1, 3, 1, 2, 0};
     static const uint8_t head[7] = {2, 9, 2, 3, 1, 255, 255}, row[5] = {3, 3, 1, 2, 255}, put[1] = {4}, lift[2] = {5, 63};
-    static const uint8_t gap[6] = {6, 2, 9, 31, 0, 5}, mark[2] = {7, 1}, back[2] = {8, 255};
+    static const uint8_t gap[6] = {6, 2, 9, 31, 0, 5}, mark[2] = {7, 1}, back[2] = {8, 255}, cancel[2] = {9, 31};
     same_bytes("board's bytes", berth_make_board(fields, 3), board, 33);
     same_bytes("bytes of a board of 32 calls", berth_make_board(fields, 32), whole, 33);
     same_bytes("head's bytes", berth_make_head(9, fields, 2), head, 7);
@@ -110,6 +110,7 @@ static void build(void) {
     same_bytes("gap's bytes", berth_make_gap(BERTH_APART, 9, 31, 0, 5), gap, 6);
     same_bytes("mark's bytes", berth_make_mark(1), mark, 2);
     same_bytes("back's bytes", berth_make_back(255), back, 2);
+    same_bytes("cancel's bytes", berth_make_cancel(31), cancel, 2);
     same("a board of 33 calls", (long)berth_make_board(fields, 33).length, 34);
     same("a head of five calls", (long)berth_make_head(9, fields, 5).length, 8);
     same("a row of five slots", (long)berth_make_row(fields, 5).length, 6);
@@ -320,7 +321,7 @@ static void refuse_marks(struct berth_board *board) {
     static struct guarded lent, all;
     struct berth_command_bytes made[] = {
         berth_make_board((const uint8_t[]){2, 2}, 2), berth_make_head(9, (const uint8_t[]){1}, 1), berth_make_row((const uint8_t[]){1}, 1), berth_make_put(),
-        berth_make_lift(5), berth_make_gap(BERTH_SAME, 9, 0, 1, 0), berth_make_mark(0), berth_make_back(0), berth_make_lift(99),
+        berth_make_lift(5), berth_make_gap(BERTH_SAME, 9, 0, 1, 0), berth_make_mark(0), berth_make_back(0), berth_make_cancel(0), berth_make_lift(99),
     };
     memset(&all, 0xa5, sizeof all);
     lent = all;
@@ -385,6 +386,13 @@ static void alter_table(struct berth_board *board) {
     same("board's table after a refused back", memcmp(board->table, all.table, sizeof board->table), 0);
     same("back", berth_board_back(board, 0).number, 0);
     same_table("board's table after a back", board->table);
+    memset(board->table, 0xa5, sizeof board->table);
+    same("cancel", berth_board_cancel(board, 0).number, 0);
+    same_record("record of a cancelled call", berth_board_summary(board, 0), 0, 0, 2);
+    same_record("record beside it", berth_board_summary(board, 1), 2, 0, 1);
+    same_record("record of no call beside it", berth_board_summary(board, 2), 0, 0, 0);
+    same("back", berth_board_back(board, 0).number, 0);
+    same_table("board's table after a back", board->table);
 }
 
 /* What an accepted mark leaves of a board, and what a back: whatever the board holds. */
@@ -432,12 +440,12 @@ static void same_back(struct berth_board *board, uint8_t name, long struck, long
     same("put of a draft from before the back", berth_board_put(board).number, BERTH_NO_DRAFT);
 }
 
-/* A refused mark or back leaves all as it was. */
+/* A refused command leaves all as it was. */
 static void same_refusal(struct berth_board *board, struct berth_command_bytes made, uint8_t number) {
     static struct berth_board before;
     before = *board;
     struct berth_command_reply reply = berth_board_obey(board, made);
-    same("refused mark or back", reply.number, number);
+    same("refused command", reply.number, number);
     same("its S, R and T", (long)(reply.struck + reply.reopened + reply.touched), 0);
     same("board after it", memcmp(board, &before, sizeof before), 0);
 }
@@ -517,8 +525,116 @@ static void forget_boards(struct berth_board *board) {
     same_refusal(board, berth_make_back(1), BERTH_NOTHING_KEPT);
 }
 
+static void same_report(const char *what, struct berth_command_reply reply, long struck, long reopened, long touched) {
+    same(what, reply.number, 0);
+    same(what, (long)reply.struck, struck);
+    same(what, (long)reply.reopened, reopened);
+    same(what, (long)reply.touched, touched);
+}
+
+/* Every slot of a cancelled call is so, and no slot beyond; no row supports one. */
+static void same_cancelled(const struct berth_board *board, uint8_t call, uint8_t count, uint8_t rules) {
+    for (uint8_t slot = 0; slot < 32; slot++) {
+        struct berth_state_reply reply = berth_board_slot_state(board, call, slot);
+        same("state of a cancelled slot", reply.number, slot < count ? 0 : BERTH_NO_SUCH_SLOT);
+        same("its cause", reply.cause, slot < count ? 253 : 254);
+        same("its byte", board->slots[32 * call + slot], slot < count ? 253 : 254);
+    }
+    same("mask of a cancelled call", berth_board_open_slots(board, call).mask, 0);
+    same("its ones", berth_board_open_slots(board, call).ones, 0);
+    same("it is asked for its mask", berth_board_open_slots(board, call).number, 0);
+    same_record("its record", berth_board_summary(board, call), 0, 0, rules);
+}
+
+/* On make_board's board call 0 is cancelled: slot 1 of call 1, which only its column struck, is open again, and the row with it lives. One mark keeps the
+   cancellation, and the other none: backs cancel and uncancel, and the call's own slots are in no count. */
+static void cancel_call(struct berth_board *board) {
+    static struct berth_board before, first, second;
+    same("clear", berth_board_clear(board), 1);
+    make_board(board);
+    same_mark(board, 0);
+    first = before = *board;
+    same_report("cancel", berth_board_cancel(board, 0), 0, 1, 1);
+    same_cancelled(board, 0, 2, 2);
+    same("value and names after a cancel", memcmp(&board->value, &before.value, sizeof before.value), 0);
+    same("rows after it", memcmp(board->rows, before.rows, sizeof before.rows), 0);
+    same("marks after it", memcmp(board->marks, before.marks, sizeof before.marks), 0);
+    same("other call", berth_board_open_slots(board, 1).mask, 3);
+    same_record("its record", berth_board_summary(board, 1), 2, 0, 1);
+    for (uint8_t slot = 0; slot < 2; slot++) {
+        same("row whose cancelled column counts no more", berth_board_row_state(board, 0, slot).killer, 255);
+        same("support in the cancelled column", berth_board_support(board, 0, 0, slot).row, 255);
+        same("it is asked", berth_board_support(board, 0, 0, slot).number, 0);
+        same("support in the other column", berth_board_support(board, 0, 1, slot).row, slot);
+    }
+    same("slot that the cancelled call never had", berth_board_support(board, 0, 0, 2).number, BERTH_NO_SUCH_SLOT);
+    second = *board;
+    same_mark(board, 1);
+    same_back(board, 0, 1, 0, first.table);
+    ask(board);
+    same_back(board, 1, 0, 1, second.table);
+    same_cancelled(board, 0, 2, 2);
+    same_report("cancel of the other call", berth_board_cancel(board, 1), 0, 0, 0);
+    same_cancelled(board, 1, 2, 1);
+    same_back(board, 0, 0, 0, first.table);
+    same("new board", berth_board_start(board, (const uint8_t[]){2, 2}, 2).number, 0);
+    same("call of the new board", berth_board_open_slots(board, 0).mask, 3);
+}
+
+/* Each refusal of a cancel comes before the next, and 29 just after 9; all stays as it was, and a draft among it. It can get rows, with any slot that the call
+   had, and be put: it strikes on its other call alone. */
+static void refuse_cancelled(struct berth_board *board) {
+    same("clear", berth_board_clear(board), 1);
+    for (int call = 0; call < 256; call++)
+        same_refusal(board, berth_make_cancel((uint8_t)call), BERTH_NO_BOARD);
+    same("board", berth_board_start(board, (const uint8_t[]){3, 3, 2}, 3).number, 0);
+    for (int call = 3; call < 256; call++)
+        same_refusal(board, berth_make_cancel((uint8_t)call), BERTH_NO_SUCH_CALL);
+    same_refusal(board, berth_make_blank(BERTH_CANCEL, 1, 0), BERTH_BODY_LENGTH);
+    same_refusal(board, berth_make_blank(BERTH_CANCEL, 3, 0), BERTH_BODY_LENGTH);
+    same_refusal(board, berth_make_blank(BERTH_CANCEL + 1, 2, 0), BERTH_UNKNOWN_KIND);
+    same("head", berth_board_head(board, 4, (const uint8_t[]){0, 2}, 2).number, 0);
+    same("row", berth_board_row(board, (const uint8_t[]){0, 1}, 2).number, 0);
+    same_report("cancel of a call of the draft", berth_board_cancel(board, 0), 0, 0, 0);
+    same_refusal(board, berth_make_cancel(0), BERTH_ALREADY_CANCELLED);
+    same_refusal(board, berth_make_head(5, (const uint8_t[]){0}, 1), BERTH_CANCELLED_CALL);
+    same_refusal(board, berth_make_head(5, (const uint8_t[]){1, 2, 0}, 3), BERTH_CANCELLED_CALL);
+    same_refusal(board, berth_make_head(5, (const uint8_t[]){0, 3}, 2), BERTH_CALL_OFF_BOARD);
+    same_refusal(board, berth_make_head(5, (const uint8_t[]){0, 0}, 2), BERTH_CANCELLED_CALL);
+    same_refusal(board, berth_make_gap(BERTH_SAME, 5, 0, 1, 1), BERTH_CANCELLED_CALL);
+    same_refusal(board, berth_make_gap(BERTH_SAME, 5, 1, 0, 0), BERTH_CANCELLED_CALL);
+    same_refusal(board, berth_make_gap(BERTH_SAME, 5, 0, 0, 0), BERTH_CANCELLED_CALL);
+    same_refusal(board, berth_make_gap(BERTH_SAME, 5, 0, 3, 0), BERTH_CALL_OFF_BOARD);
+    same_refusal(board, berth_make_gap(0, 5, 0, 1, 0), BERTH_BAD_FORM);
+    struct berth_command_bytes spare = berth_make_head(5, (const uint8_t[]){1, 0}, 2);
+    spare.bytes[2] = 1; /* the cancelled call stands past the arity */
+    same_refusal(board, spare, BERTH_SPARE_FIELD);
+    same_refusal(board, berth_make_row((const uint8_t[]){3, 1}, 2), BERTH_SLOT_OFF_CALL);
+    same("row of the draft from before", berth_board_row(board, (const uint8_t[]){2, 1}, 2).number, 0);
+    same_report("put of it", berth_board_put(board), 1, 0, 1);
+    same("its other call", berth_board_open_slots(board, 2).mask, 2);
+    same("its rows live", berth_board_row_state(board, 4, 0).killer + berth_board_row_state(board, 4, 1).killer, 510);
+    same_cancelled(board, 0, 3, 1);
+    same_report("lift of it", berth_board_lift(board, 4), 0, 1, 1);
+}
+
+/* A rule without rows goes on striking its other call when one is cancelled, and nothing when both are. */
+static void cancel_without_rows(struct berth_board *board) {
+    same("board", berth_board_start(board, (const uint8_t[]){2, 3}, 2).number, 0);
+    same("head", berth_board_head(board, 0, (const uint8_t[]){0, 1}, 2).number, 0);
+    same_report("put", berth_board_put(board), 5, 0, 5);
+    same_report("cancel", berth_board_cancel(board, 0), 0, 0, 0);
+    same_record("record of the other call", berth_board_summary(board, 1), 0, 3, 1);
+    same_report("lift", berth_board_lift(board, 0), 0, 3, 3);
+    same("head without the cancelled call", berth_board_head(board, 0, (const uint8_t[]){1}, 1).number, 0);
+    same_report("cancel of the last call", berth_board_cancel(board, 1), 0, 0, 0);
+    same_report("put on cancelled calls alone", berth_board_put(board), 0, 0, 0);
+    same_cancelled(board, 1, 3, 1);
+    same_report("lift of it", berth_board_lift(board, 0), 0, 0, 0);
+}
+
 /* A command on a board of any contents writes nothing beside the value, the names, the marks and the table that it is lent, and of names and marks no more than
-   it has to; refused, it writes nothing at all. */
+   it has to; refused, it writes nothing at all. A cancel leaves the value and the rows. */
 static void obey_altered(struct berth_board *board, struct berth_command_bytes made) {
     static struct berth_board wanted;
     static struct guarded lent, was;
@@ -552,6 +668,11 @@ static void obey_altered(struct berth_board *board, struct berth_command_bytes m
         same("names of an altered board", memcmp(board->value.names, left.names, sizeof left.names), 0);
         same("marks of an altered board", memcmp(board->marks, wanted.marks, sizeof board->marks), 0);
     }
+    if (kind == BERTH_CANCEL && number == 0) {
+        same("value after a cancel on altered memory", memcmp(&board->value, &wanted.value, sizeof board->value), 0);
+        same("rows after it", memcmp(board->rows, wanted.rows, sizeof board->rows), 0);
+        same("state after it", berth_board_slot_state(board, made.bytes[1], 0).cause, 253);
+    }
     if (kind == BERTH_BOARD) {
         same("a new board on altered memory", number, 0);
         same("kept beside it", board->value.names[0].kept + board->value.names[1].kept, 0);
@@ -576,22 +697,22 @@ static void ask_altered(const struct berth_board *board) {
     same("an altered board that is asked", memcmp(board, &before, sizeof before), 0);
 }
 
-enum { COMMANDS = 22 };
+enum { COMMANDS = 26 };
 
-/* Commands for altered boards: all kinds, with marks and backs between them. */
+/* Commands for altered boards: all kinds, with marks, backs and cancels between them. */
 static void make_any(struct berth_command_bytes *made) {
     const struct berth_command_bytes all[COMMANDS] = {
         berth_make_head(0, (const uint8_t[]){0}, 1), berth_make_row((const uint8_t[]){1}, 1), berth_make_put(), berth_make_lift(0),
-        berth_make_back(1), berth_make_put(), berth_make_lift(63), berth_make_mark(0),
+        berth_make_back(1), berth_make_put(), berth_make_lift(63), berth_make_cancel(1), berth_make_mark(0),
         berth_make_gap(BERTH_BEFORE, 63, 0, 31, 22), berth_make_gap(BERTH_APART, 0, 31, 30, 0), berth_make_gap(BERTH_SAME, 1, 2, 3, 200),
-        berth_make_gap(255, 255, 255, 255, 255), berth_make_mark(2), berth_make_back(255),
+        berth_make_gap(255, 255, 255, 255, 255), berth_make_mark(2), berth_make_back(255), berth_make_cancel(255), berth_make_cancel(31),
         berth_make_gap(BERTH_SAME, 0, 1, 0, 0), berth_make_row((const uint8_t[]){3, 1}, 2), berth_make_put(), berth_make_mark(1),
-        berth_make_back(0), berth_make_lift(0), berth_make_back(1), berth_make_board((const uint8_t[]){2, 2}, 2),
+        berth_make_back(0), berth_make_lift(0), berth_make_cancel(0), berth_make_back(1), berth_make_board((const uint8_t[]){2, 2}, 2),
     };
     memcpy(made, all, sizeof all);
 }
 
-static const uint8_t altered_bytes[] = {0, 1, 3, 4, 31, 32, 63, 64, 200, 254, 255};
+static const uint8_t altered_bytes[] = {0, 1, 3, 4, 31, 32, 63, 64, 200, 253, 254, 255};
 
 /* Each command on altered memory, and one after another. */
 static void alter_board(void) {
@@ -641,6 +762,28 @@ static void alter_marks(void) {
     same_fence(&fenced);
 }
 
+/* The host writes 253 where no call was cancelled: on a call's first slot alone, on others alone, past the slots, and on a call that is not there. Commands
+   return and stay inside. */
+static void strew_cancelled(void) {
+    static const int places[] = {0, 1, 2, 31, 32, 33, 34, 64, 1023};
+    static struct fenced fenced;
+    struct berth_board *board = &fenced.board;
+    struct berth_command_bytes made[COMMANDS];
+    make_any(made);
+    raise_fence(&fenced);
+    for (size_t i = 0; i < sizeof places / sizeof *places; i++)
+        for (size_t j = i; j < sizeof places / sizeof *places; j++) {
+            same("clear", berth_board_clear(board), 1);
+            make_board(board);
+            board->slots[places[i]] = board->slots[places[j]] = 253;
+            for (size_t k = 0; k < COMMANDS; k++) {
+                obey_altered(board, made[k]);
+                ask_altered(board);
+            }
+        }
+    same_fence(&fenced);
+}
+
 /* A file leaves what its commands leave one by one, up to one that cannot be read; one that is too long changes nothing. */
 static void replay(struct berth_board *board) {
     static const uint8_t lift_without_board[] = {5, 9, 4, 0};
@@ -649,7 +792,8 @@ static void replay(struct berth_board *board) {
     struct berth_board *other = &fenced.board;
     struct berth_command_bytes made[] = {
         berth_make_lift(9), berth_make_board((const uint8_t[]){2, 2}, 2), berth_make_head(0, (const uint8_t[]){0}, 1), berth_make_row((const uint8_t[]){1}, 1),
-        berth_make_put(), berth_make_mark(0), berth_make_lift(0), berth_make_mark(1), berth_make_back(0), berth_make_gap(BERTH_SAME, 1, 0, 1, 0),
+        berth_make_put(), berth_make_mark(0), berth_make_cancel(1), berth_make_lift(0), berth_make_mark(1), berth_make_back(0),
+        berth_make_gap(BERTH_SAME, 1, 0, 1, 0), berth_make_cancel(1),
     };
     size_t length = 0;
     raise_fence(&fenced);
@@ -660,10 +804,11 @@ static void replay(struct berth_board *board) {
         berth_board_obey(other, made[i]);
     }
     struct berth_replay_reply reply = berth_board_replay(board, file, length);
-    same("commands run", (long)reply.ran, 10);
+    same("commands run", (long)reply.ran, 12);
     same("end of the file", reply.number, 0);
     same("board after the file", memcmp(board, other, sizeof *other), 0);
     same_record("record after the file", board->table[0], 1, 1, 1);
+    same_record("record of the cancelled call", board->table[1], 0, 0, 0);
     same("file that is too long", berth_board_replay(board, file, sizeof file).number, BERTH_FILE_LENGTH);
     same("board after it", memcmp(board, other, sizeof *other), 0);
     reply = berth_board_replay(board, lift_without_board, 4);
@@ -716,6 +861,7 @@ int main(int words, char **word) {
     alter_table(board);
     alter_board();
     alter_marks();
+    strew_cancelled();
     replay(board);
     support_lowest(board);
     draft_gaps(board);
@@ -723,6 +869,9 @@ int main(int words, char **word) {
     refuse_names(board);
     keep_boards(board);
     forget_boards(board);
+    cancel_call(board);
+    refuse_cancelled(board);
+    cancel_without_rows(board);
     same_fence(&fenced);
     printf("header: %s\n", failed ? "FAILED" : "every function answers from C as it should");
     return failed;

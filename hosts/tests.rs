@@ -3,7 +3,8 @@
 mod berth;
 
 use berth::{
-    lent, Board, Draft, Form, Heads, MarkedValue, Name, Refusal, Replay, Report, Row, Rule, Slot, Summary, Value,
+    lent, Board, Draft, Form, Heads, MarkedValue, Name, OpenSlots, Refusal, Replay, Report, Row, Rule, Slot, Summary,
+    Value,
 };
 use berth::{KILLERS, MARKS, RECORDS, ROWS, SLOTS};
 
@@ -262,7 +263,7 @@ fn refuse_table(board: &Board) {
     for length in [31, 33, 0] {
         let lent = vec![record(7, 8, 9); length];
         let mut parts = Parts::of(board, &lent);
-        assert_eq!([&[5, 5][..], &[], &[5], &[9]].map(|bytes| parts.command(bytes)), [22; 4]);
+        assert_eq!([&[5, 5][..], &[], &[5], &[9, 0], &[10]].map(|bytes| parts.command(bytes)), [22; 5]);
         assert_eq!([&[5, 5][..], &[4; berth::FILE + 1]].map(|file| parts.replay(file)), [22; 2]);
         assert_eq!(parts.fresh_board(), 22);
         assert!(parts.same(board) && parts.table() == lent);
@@ -276,7 +277,7 @@ fn refuse_table(board: &Board) {
 /// Marks of another length are refused as any buffer is, with every kind, and before the table, the command or the file is looked at. Nothing changes then.
 fn refuse_marks(board: &Board) {
     let start = [&[1, 2, 2][..], &[0; 30]].concat();
-    let commands: [&[u8]; 10] = [
+    let commands: [&[u8]; 11] = [
         &[],
         &start,
         &[2, 9, 1, 1, 255, 255, 255],
@@ -286,14 +287,15 @@ fn refuse_marks(board: &Board) {
         &[6, 3, 9, 0, 1, 0],
         &[7, 0],
         &[8, 0],
-        &[9],
+        &[9, 0],
+        &[10],
     ];
     for length in [0, MARKS / 2, MARKS - 1, MARKS + 1] {
         for records in [RECORDS, 31] {
             let mut parts = Parts::of(board, &vec![record(7, 8, 9); records]);
             parts.fenced_marks = vec![0xa5; length + 2];
             let before = parts.clone();
-            assert_eq!(commands.map(|bytes| parts.command(bytes)), [1; 10]);
+            assert_eq!(commands.map(|bytes| parts.command(bytes)), [1; 11]);
             assert_eq!([&start[..], &[4; berth::FILE + 1]].map(|file| parts.replay(file)), [1; 2]);
             assert_eq!(parts.fresh_board(), 1);
             assert!(parts == before);
@@ -301,8 +303,8 @@ fn refuse_marks(board: &Board) {
     }
 }
 
-/// A mark or a back that is refused leaves all as it was.
-fn refuse_name(board: &mut Board, bytes: &[u8], refusal: Refusal) {
+/// A command that is refused leaves all as it was.
+fn refuse_bytes(board: &mut Board, bytes: &[u8], refusal: Refusal) {
     let before = Parts::of(board, board.summaries());
     assert_eq!(board.command(bytes), Err(refusal), "{bytes:?}");
     assert!(before.same(board) && before.table() == board.summaries());
@@ -312,21 +314,21 @@ fn refuse_name(board: &mut Board, bytes: &[u8], refusal: Refusal) {
 fn refuse_names() {
     let mut no_board = Board::new();
     for name in 0..=255 {
-        refuse_name(&mut no_board, &[7, name], Refusal::NoBoard);
-        refuse_name(&mut no_board, &[8, name], Refusal::NoBoard);
+        refuse_bytes(&mut no_board, &[7, name], Refusal::NoBoard);
+        refuse_bytes(&mut no_board, &[8, name], Refusal::NoBoard);
     }
     let mut board = board();
     board.gap(Form::Same, 9, 0, 1, 0).unwrap();
     assert_eq!([0, 1].map(|name| board.back(name)), [Err(Refusal::NothingKept); 2]);
     assert_eq!((board.mark(2), board.back(2)), (Err(Refusal::NameOver1), Err(Refusal::NameOver1)));
-    refuse_name(&mut board, &[8, 0], Refusal::NothingKept);
-    refuse_name(&mut board, &[8, 1], Refusal::NothingKept);
+    refuse_bytes(&mut board, &[8, 0], Refusal::NothingKept);
+    refuse_bytes(&mut board, &[8, 1], Refusal::NothingKept);
     for name in 2..=255 {
-        refuse_name(&mut board, &[7, name], Refusal::NameOver1);
-        refuse_name(&mut board, &[8, name], Refusal::NameOver1);
+        refuse_bytes(&mut board, &[7, name], Refusal::NameOver1);
+        refuse_bytes(&mut board, &[8, name], Refusal::NameOver1);
     }
     for bytes in [&[7][..], &[7, 0, 0], &[8], &[8, 0, 0]] {
-        refuse_name(&mut board, bytes, Refusal::BodyLength);
+        refuse_bytes(&mut board, bytes, Refusal::BodyLength);
     }
 }
 
@@ -355,7 +357,7 @@ fn keep_boards() {
     board.row(&[1]).unwrap();
     let first = *board.summaries();
     mark(&mut board, 0);
-    refuse_name(&mut board, &[8, 1], Refusal::NothingKept);
+    refuse_bytes(&mut board, &[8, 1], Refusal::NothingKept);
     assert_eq!(board.put().unwrap().struck, 2);
     assert_eq!(board.lift(5).unwrap().reopened, 2);
     board.gap(Form::Same, 7, 0, 1, 0).unwrap();
@@ -379,13 +381,110 @@ fn keep_boards() {
     let bytes = board.marks().to_vec();
     board.start(&[2, 2]).unwrap();
     assert!(board.value().names == lent::fresh().names && board.marks() == bytes);
-    refuse_name(&mut board, &[8, 0], Refusal::NothingKept);
-    refuse_name(&mut board, &[8, 1], Refusal::NothingKept);
+    refuse_bytes(&mut board, &[8, 0], Refusal::NothingKept);
+    refuse_bytes(&mut board, &[8, 1], Refusal::NothingKept);
     mark(&mut board, 1);
     let bytes = board.marks().to_vec();
     board.replay(&[&[1, 2, 2][..], &[0; 30]].concat()).unwrap();
     assert!(board.value().names == lent::fresh().names && board.marks() == bytes);
-    refuse_name(&mut board, &[8, 1], Refusal::NothingKept);
+    refuse_bytes(&mut board, &[8, 1], Refusal::NothingKept);
+}
+
+fn report(struck: usize, reopened: usize, touched: usize) -> Report {
+    Report { struck, reopened, touched }
+}
+
+/// Every slot of a cancelled call is so, and there is none beyond; no row supports one, and its record has its rules alone.
+fn check_cancelled(board: &Board, call: u8, count: u8, rules: u8) {
+    for slot in 0..32 {
+        let due = if slot < count { Ok(Slot::Cancelled) } else { Err(Refusal::NoSuchSlot) };
+        let byte = board.memory().slots[32 * call as usize + slot as usize];
+        assert_eq!((board.slot_state(call, slot), byte), (due, if slot < count { 253 } else { 254 }));
+    }
+    assert_eq!(board.open_slots(call), Ok(OpenSlots { mask: 0, ones: 0 }));
+    assert_eq!(board.summary(call), record(0, 0, rules));
+}
+
+/// Call 0 is cancelled: slot 1 of call 1, which only its column struck, is open again, and the row with it lives. One mark keeps the cancellation, and the
+/// other none: backs cancel and uncancel, and the call's own slots are in no count. A new board ends it.
+fn cancel_call() {
+    let mut board = board();
+    mark(&mut board, 0);
+    let before = Parts::of(&board, board.summaries());
+    assert_eq!(board.cancel(0), Ok(report(0, 1, 1)));
+    check_cancelled(&board, 0, 2, 2);
+    let mut after = Parts::of(&board, board.summaries());
+    (after.killers, after.slots, after.fenced) = (before.killers.clone(), before.slots.clone(), before.fenced.clone());
+    assert!(after == before, "a cancellation writes to more than killers, slots and table");
+    assert_eq!(board.open_slots(1).unwrap().mask, 3);
+    for slot in 0..2 {
+        assert_eq!(board.row_state(0, slot), Ok(Row::Alive));
+        assert_eq!([0, 1].map(|column| board.support(0, column, slot)), [Ok(None), Ok(Some(slot))]);
+    }
+    assert_eq!(board.support(0, 0, 2), Err(Refusal::NoSuchSlot));
+    assert_eq!(*board.summaries(), table(&[record(0, 0, 2), record(2, 0, 1)]));
+    let second = *board.summaries();
+    mark(&mut board, 1);
+    back(&mut board, 0, 1, 0, before.table());
+    ask(&board);
+    back(&mut board, 1, 0, 1, &second);
+    check_cancelled(&board, 0, 2, 2);
+    assert_eq!(board.cancel(1), Ok(Report::default()));
+    check_cancelled(&board, 1, 2, 1);
+    back(&mut board, 0, 0, 0, before.table());
+    board.cancel(1).unwrap();
+    board.start(&[2, 2]).unwrap();
+    assert_eq!([0, 1].map(|call| board.open_slots(call).unwrap().mask), [3; 2]);
+}
+
+/// Each refusal of a cancellation comes before the next, and 29 just after 9; all stays as it was, and a draft among it. It can get rows, with any slot that
+/// the call had, and be put: it strikes on its other call alone.
+fn refuse_cancelled() {
+    let mut board = Board::new();
+    (0..=255).for_each(|call| refuse_bytes(&mut board, &[9, call], Refusal::NoBoard));
+    board.start(&[3, 3, 2]).unwrap();
+    (3..=255).for_each(|call| refuse_bytes(&mut board, &[9, call], Refusal::NoSuchCall));
+    refuse_bytes(&mut board, &[9], Refusal::BodyLength);
+    refuse_bytes(&mut board, &[9, 0, 0], Refusal::BodyLength);
+    refuse_bytes(&mut board, &[10, 0], Refusal::UnknownKind);
+    board.head(4, &[0, 2]).unwrap();
+    board.row(&[0, 1]).unwrap();
+    assert_eq!(board.cancel(0), Ok(Report::default()));
+    assert_eq!(board.cancel(0), Err(Refusal::AlreadyCancelled));
+    let wrong: [(Refusal, &[&[u8]]); 6] = [
+        (Refusal::AlreadyCancelled, &[&[9, 0]]),
+        (Refusal::CallOffBoard, &[&[2, 5, 2, 0, 3, 255, 255], &[6, 3, 5, 0, 3, 0]]),
+        (Refusal::CancelledCall, &[&[2, 5, 1, 0, 255, 255, 255], &[2, 5, 3, 1, 2, 0, 255], &[2, 5, 2, 0, 0, 0, 0]]),
+        (Refusal::CancelledCall, &[&[6, 3, 5, 0, 1, 1], &[6, 3, 5, 1, 0, 0], &[6, 3, 5, 0, 0, 32]]),
+        // the cancelled call stands past the arity
+        (Refusal::SpareField, &[&[2, 5, 1, 1, 0, 255, 255]]),
+        (Refusal::SlotOffCall, &[&[3, 3, 1, 255, 255]]),
+    ];
+    for (refusal, commands) in wrong {
+        commands.iter().for_each(|bytes| refuse_bytes(&mut board, bytes, refusal));
+    }
+    board.row(&[2, 1]).unwrap();
+    assert_eq!(board.put(), Ok(report(1, 0, 1)));
+    assert_eq!(board.open_slots(2).unwrap().mask, 2);
+    assert_eq!([0, 1].map(|row| board.row_state(4, row)), [Ok(Row::Alive); 2]);
+    check_cancelled(&board, 0, 3, 1);
+    assert_eq!(board.lift(4), Ok(report(0, 1, 1)));
+}
+
+/// A rule without rows goes on striking its other call when one is cancelled, and nothing when both are.
+fn cancel_without_rows() {
+    let mut board = Board::new();
+    board.start(&[2, 3]).unwrap();
+    board.head(0, &[0, 1]).unwrap();
+    assert_eq!(board.put(), Ok(report(5, 0, 5)));
+    assert_eq!(board.cancel(0), Ok(Report::default()));
+    assert_eq!(*board.summaries(), table(&[record(0, 0, 1), record(0, 3, 1)]));
+    assert_eq!(board.lift(0), Ok(report(0, 3, 3)));
+    board.head(0, &[1]).unwrap();
+    assert_eq!(board.cancel(1), Ok(Report::default()));
+    assert_eq!(board.put(), Ok(Report::default()));
+    check_cancelled(&board, 1, 3, 1);
+    assert_eq!(board.lift(0), Ok(Report::default()));
 }
 
 /// Heads that hold nothing but this byte, and a whole value.
@@ -411,12 +510,14 @@ fn filled(kept: &Parts, byte: u8) -> [Parts; 5] {
     [Parts { value: named, ..kept.clone() }, Parts { value: named, ..marks.clone() }, buffers, marks, all]
 }
 
-/// On altered memory commands return and leave the fences, and only a mark writes names and marks; one that is refused changes nothing.
+/// On altered memory commands return and leave the fences, and only a mark writes names and marks; a cancellation leaves the value and the rows; one that is
+/// refused changes nothing.
 fn obey_altered(parts: &mut Parts) {
-    let commands: [&[u8]; 17] = [
+    let commands: [&[u8]; 21] = [
         &[4],
         &[2, 9, 1, 1, 255, 255, 255],
         &[5, 5],
+        &[9, 1],
         &[8, 1],
         &[7, 0],
         &[6, 1, 63, 0, 31, 22],
@@ -426,7 +527,10 @@ fn obey_altered(parts: &mut Parts) {
         &[3, 1, 0, 255, 255],
         &[8, 255],
         &[7, 2],
+        &[9, 255],
+        &[9, 31],
         &[8, 0],
+        &[9, 0],
         &[5, 0],
         &[7, 1],
         &[8, 1],
@@ -441,6 +545,9 @@ fn obey_altered(parts: &mut Parts) {
             (0, [7, name]) => due.keep_under(*name as usize),
             (0, [8, name]) => due.bring_back(*name as usize),
             _ => {
+                let cancels = number == 0 && bytes[0] == 9;
+                let same = parts.value == due.value && parts.rows == due.rows;
+                assert!(!cancels || same, "{bytes:?} writes to the value or the rows");
                 assert!(
                     parts.marks() == due.marks() && parts.value.names == due.value.names,
                     "{bytes:?} writes names or marks"
@@ -486,7 +593,7 @@ fn alter(board: &Board) {
     assert!(parts.value == lent::fresh() && parts.table() == table(&[]));
     assert!(parts.rows == [255; ROWS] && parts.killers == [255; KILLERS] && parts.slots == [254; SLOTS]);
     assert_eq!(parts.marks(), board.marks());
-    for byte in [0, 1, 3, 31, 63, 64, 200, 254, 255] {
+    for byte in [0, 1, 3, 31, 63, 64, 200, 253, 254, 255] {
         let mut kept = Parts::of(board, &lent);
         assert_eq!([0, 1].map(|name| kept.command(&[7, name])), [0; 2]);
         for mut parts in filled(&kept, byte) {
@@ -501,33 +608,45 @@ fn alter(board: &Board) {
     }
 }
 
+/// A host writes 253 where no call was cancelled: on a call's first slot alone, on others, past the slots, and on a call that is not there.
+fn strew_cancelled(board: &Board) {
+    let places = [0, 1, 2, 31, 32, 33, 34, 64, SLOTS - 1];
+    for (one, other) in places.iter().flat_map(|one| places.map(|other| (*one, other))) {
+        let mut parts = Parts::of(board, board.summaries());
+        (parts.slots[one], parts.slots[other]) = (253, 253);
+        obey_altered(&mut parts);
+    }
+}
+
 /// A file leaves what its commands leave one by one, up to one that cannot be read; one that is too long changes nothing.
 fn replay(board: &mut Board) {
     let start = [&[1, 2, 2][..], &[0; 30]].concat();
-    let commands: [&[u8]; 10] = [
+    let commands: [&[u8]; 12] = [
         &[5, 9],
         &start,
         &[2, 0, 1, 0, 255, 255, 255],
         &[3, 1, 255, 255, 255],
         &[4],
         &[7, 0],
+        &[9, 1],
         &[5, 0],
         &[7, 1],
         &[8, 0],
         &[6, 3, 1, 0, 1, 0],
+        &[9, 1],
     ];
     let mut other = Board::new();
     for bytes in commands {
         let _ = other.command(bytes);
     }
     let file = commands.concat();
-    assert_eq!(board.replay(&file), Ok(Replay { ran: 10, end: None }));
+    assert_eq!(board.replay(&file), Ok(Replay { ran: 12, end: None }));
     let same = |a: &Board, b: &Board| Parts::of(a, a.summaries()) == Parts::of(b, b.summaries());
     assert!(same(board, &other));
-    assert_eq!(*board.summaries(), table(&[record(1, 1, 1), record(2, 0, 0)]));
+    assert_eq!(*board.summaries(), table(&[record(1, 1, 1), record(0, 0, 0)]));
     assert_eq!(board.replay(&[4; berth::FILE + 1]), Err(Refusal::FileLength));
     assert!(same(board, &other));
-    assert_eq!(board.replay(&[&file[..], &[5]].concat()), Ok(Replay { ran: 10, end: Some(Refusal::BodyLength) }));
+    assert_eq!(board.replay(&[&file[..], &[5]].concat()), Ok(Replay { ran: 12, end: Some(Refusal::BodyLength) }));
     assert!(same(board, &other));
     let MarkedValue { mut value, mut names } = *board.value();
     assert_eq!(
@@ -545,7 +664,7 @@ fn name() {
     for number in 0..=255 {
         let refusal = Refusal::from_number(number);
         assert_eq!(refusal.number(), number);
-        assert_eq!(matches!(refusal, Refusal::Other(_)), !(1..=27).contains(&number), "{refusal:?}");
+        assert_eq!(matches!(refusal, Refusal::Other(_)), !(1..=29).contains(&number), "{refusal:?}");
     }
     assert_eq!(Refusal::NotInForce.to_string(), "refused 17: no rule of this number is in force");
     assert_eq!(Refusal::Other(99).to_string(), "refused 99: no refusal has this number");
@@ -564,12 +683,16 @@ fn main() {
     refuse_table(&board);
     refuse_marks(&board);
     alter(&board);
+    strew_cancelled(&board);
     replay(&mut board);
     support_lowest();
     draft_gaps();
     refuse_gaps();
     refuse_names();
     keep_boards();
+    cancel_call();
+    refuse_cancelled();
+    cancel_without_rows();
     name();
     println!("wrapper: every function answers from Rust as it should");
 }

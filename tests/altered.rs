@@ -1,10 +1,11 @@
-//! Commands and questions on memory with any contents and of any lengths: every call returns, nothing outside of it changes, a refusal changes nothing, and marks
-//! are written and brought back as ever. (host.rs asserts it of each command.) A new board has its table then, too.
+//! Commands and questions on memory with any contents and of any lengths: every call returns, nothing outside of it changes, a refusal changes nothing, and
+//! marks are written and brought back as ever; a cancellation leaves what it always leaves. (host.rs asserts it of each command.) A new board has its table
+//! then, too.
 
-use crate::berth::{MarkedValue, Summary};
+use crate::berth::{MarkedValue, Slot, Summary};
 use crate::filter::all_slots;
 use crate::host::{number_of, Fenced, Host};
-use crate::ledger::{Ledger, BACK, BOARD, LAST_KIND, LENGTHS, LIFT, MARK, PUT};
+use crate::ledger::{Ledger, BACK, BOARD, CANCEL, LAST_KIND, LENGTHS, LIFT, MARK, PUT};
 use crate::random::Random;
 use crate::summary::{self, table_of};
 use crate::writer::{any_command, any_gap_rule, board, some_name, SIZES};
@@ -64,6 +65,15 @@ fn some_table(random: &mut Random) -> Fenced<Summary> {
     Fenced::new(&bytes.chunks(3).map(record).collect::<Vec<_>>())
 }
 
+/// The byte of a cancelled call at any places of the slots: on a call's first slot alone, amid the others, and past the last.
+fn strew_cancelled(random: &mut Random, slots: &mut [u8]) {
+    for _ in 0..random.between((1, 12)) {
+        let slot = if random.percent(50) { 0 } else { random.below(32) };
+        let place = 32 * random.below(32) + slot;
+        slots[place.min(slots.len() - 1)] = 253;
+    }
+}
+
 /// Any contents, or what a list left, with some bytes altered.
 pub fn some_host(random: &mut Random, left: &[Host]) -> Host {
     let mut host = random.choose(left).clone();
@@ -83,6 +93,9 @@ pub fn some_host(random: &mut Random, left: &[Host]) -> Host {
         };
         part[random.below(part.len())] = some_bytes(random, 1)[0];
     }
+    if random.percent(40) {
+        strew_cancelled(random, host.buffers[2].inside_mut());
+    }
     for name in &mut host.value.names {
         if random.percent(30) {
             name.kept = some_bytes(random, 1)[0];
@@ -91,15 +104,16 @@ pub fn some_host(random: &mut Random, left: &[Host]) -> Host {
     host
 }
 
-/// Mostly puts, lifts, marks and backs, which do most there.
+/// Mostly puts, lifts, marks, backs and cancellations, which do most there.
 fn some_command(random: &mut Random) -> Vec<u8> {
-    match random.below(80) {
+    match random.below(92) {
         0 => board(random, &SIZES[0]),
         1..=13 => vec![PUT],
         14..=26 => vec![LIFT, random.below(65) as u8],
         27..=32 => any_gap_rule(random),
         33..=50 => any_command(random),
         51..=70 => vec![*random.choose(&[MARK, BACK]), some_name(random)],
+        71..=82 => vec![CANCEL, random.near(32)],
         _ => {
             let length = random.below(40);
             some_bytes(random, length)
@@ -107,13 +121,17 @@ fn some_command(random: &mut Random) -> Vec<u8> {
     }
 }
 
-/// All questions with any numbers. None changes anything; the row's bytes are a part of the buffer, and the empty part where the row's state is refused.
+/// All questions with any numbers. None changes anything; the row's bytes are a part of the buffer, and the empty part where the row's state is refused; a slot
+/// is cancelled where its byte says so.
 fn ask(random: &mut Random, host: &Host) {
     let before = host.clone();
     let n = some_bytes(random, 7);
     let memory = host.memory();
     let _ = memory.open_slots(n[0]);
-    let _ = memory.slot_state(n[0], n[1]);
+    if let Ok(state) = memory.slot_state(n[0], n[1]) {
+        let byte = memory.slots.get(32 * n[0] as usize + n[1] as usize);
+        assert_eq!(state == Slot::Cancelled, byte == Some(&253), "the state of slot {} of call {}", n[1], n[0]);
+    }
     let refusal = number_of(&memory.row_state(n[2], n[3]));
     assert_eq!(memory.row_bytes(n[2], n[3]).len(), if refusal == 0 { 4 } else { 0 }, "the row's bytes");
     let _ = memory.support(n[4], n[5], n[6]);

@@ -1,4 +1,5 @@
-//! The open slots of a ledger, from scratch: all slots at first, and rule after rule those without a support are taken away, until nothing changes.
+//! The open slots of a ledger, from scratch: all slots of the calls that are not cancelled at first, and rule after rule those without a support are taken
+//! away, until nothing changes.
 
 use crate::ledger::{self, Ledger, Rule};
 use std::sync::atomic::{AtomicBool, Ordering::Relaxed};
@@ -13,8 +14,10 @@ pub fn has(set: &Slots, (call, slot): (u8, u8)) -> bool {
     set[call as usize] >> slot & 1 == 1
 }
 
-pub fn is_alive(rule: &Rule, row: [u8; 4], open: &Slots) -> bool {
-    rule.cells(row).all(|cell| has(open, cell))
+/// Whether a row's slots are open, in the columns that count: a cancelled call's does not.
+pub fn is_alive(ledger: &Ledger, rule: &Rule, row: [u8; 4], open: &Slots) -> bool {
+    let mut counting = rule.cells(row).filter(|(call, _)| !ledger.is_cancelled(*call));
+    counting.all(|cell| has(open, cell))
 }
 
 /// The slots of each column that stand in one of the rows for which the test holds.
@@ -28,8 +31,10 @@ pub fn slots_in(rule: &Rule, test: impl Fn(usize, [u8; 4]) -> bool) -> [u32; 4] 
     found
 }
 
+/// All that are open or struck: a cancelled call has none.
 pub fn all_slots(ledger: &Ledger) -> Slots {
-    ledger.counts.iter().map(|count| u32::MAX >> (32 - count)).collect()
+    let slots = |(call, count): (u8, &u8)| if ledger.is_cancelled(call) { 0 } else { u32::MAX >> (32 - count) };
+    (0..).zip(&ledger.counts).map(slots).collect()
 }
 
 pub fn open_slots(ledger: &Ledger) -> Slots {
@@ -37,7 +42,7 @@ pub fn open_slots(ledger: &Ledger) -> Slots {
     loop {
         let before = open.clone();
         for rule in ledger.rules.values() {
-            let supported = slots_in(rule, |_, row| is_alive(rule, row, &open));
+            let supported = slots_in(rule, |_, row| is_alive(ledger, rule, row, &open));
             for (column, call) in rule.calls.iter().enumerate() {
                 open[*call as usize] &= supported[column];
             }
@@ -48,15 +53,21 @@ pub fn open_slots(ledger: &Ledger) -> Slots {
     }
 }
 
-/// How many slots of the first are not in the second.
-pub fn lost(first: &Slots, second: &Slots) -> usize {
-    first.iter().zip(second).map(|(a, b)| (a & !b).count_ones() as usize).sum()
+/// The slots that are not open.
+pub fn struck_slots(ledger: &Ledger, open: &Slots) -> Slots {
+    all_slots(ledger).iter().zip(open).map(|(all, open)| all & !open).collect()
 }
 
-/// S and R of an accepted command.
-pub fn report_of(kind: u8, before: &Slots, after: &Slots) -> (usize, usize) {
+/// How many slots are in both.
+pub fn common(first: &Slots, second: &Slots) -> usize {
+    first.iter().zip(second).map(|(a, b)| (a & b).count_ones() as usize).sum()
+}
+
+/// S and R of an accepted command, by the open and the struck slots before and after it. A slot whose call is cancelled is neither, so it is in no count.
+pub fn report_of(kind: u8, before: [&Slots; 2], after: [&Slots; 2]) -> (usize, usize) {
+    let ([open_before, struck_before], [open, struck]) = (before, after);
     match kind {
         ledger::BOARD => (0, 0),
-        _ => (lost(before, after), lost(after, before)),
+        _ => (common(open_before, struck), common(struck_before, open)),
     }
 }

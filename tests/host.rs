@@ -1,9 +1,9 @@
 //! A host's value, names, lent buffers, marks and summary table, each between bytes that nobody may write. What the library promises of any contents is asserted
-//! of every command: that a refused one changes nothing, and what an accepted one leaves of the names and the marks.
+//! of every command: that a refused one changes nothing, what an accepted one leaves of the names and the marks, and what a cancellation leaves.
 
 use crate::berth::lent::{self, Memory};
 use crate::berth::{Answer, Draft, Heads, MarkedValue, Name, Refusal, Replay, Report, Rule, Summary, Value};
-use crate::ledger::{Kept, Ledger, Lengths, Rules, BACK, BOARD, LENGTHS, MARK};
+use crate::ledger::{Kept, Ledger, Lengths, Rules, BACK, BOARD, CANCEL, LENGTHS, MARK};
 use std::ops::Range;
 
 const FENCE: usize = 1024;
@@ -181,7 +181,10 @@ impl Host {
         });
         assert!(given == Fenced::new(bytes), "{bytes:?} is written to");
         match answer {
-            Ok(_) => self.check_marks(bytes, &before),
+            Ok(_) => {
+                self.check_marks(bytes, &before);
+                self.check_cancelled(bytes, &before);
+            }
             Err(_) => assert!(*self == before, "{bytes:?} is refused, and changes something"),
         }
         (answer, before)
@@ -199,6 +202,17 @@ impl Host {
                 assert!(self.marks == before.marks, "{bytes:?} writes to the marks");
             }
         }
+    }
+
+    /// A cancellation leaves the value, with its draft, and the rows, and gives each slot of its call the byte 253. A call to which an altered value gives more
+    /// than 32 slots has 32.
+    fn check_cancelled(&self, bytes: &[u8], before: &Host) {
+        let [CANCEL, call] = bytes else { return };
+        assert!(self.value.value == before.value.value, "the value after {bytes:?}");
+        assert!(self.buffers[0] == before.buffers[0], "{bytes:?} writes to the rows");
+        let count = before.value.value.heads.counts[*call as usize].min(32) as usize;
+        let slots = &self.buffers[2].inside()[32 * *call as usize..][..count];
+        assert!(slots.iter().all(|byte| *byte == 253), "the slots of the call after {bytes:?}: {slots:?}");
     }
 
     /// All but the table is as it is due.

@@ -1,8 +1,9 @@
-//! The ledger (SCOPE 6.5), written for the tests and apart from the board: the calls' slot counts, the draft, the rules and the kept boards, when a command or a
-//! question is refused, and what a command does. A new kind of command is added to the constants, to `body_length`, `kind_refusal`, `obey` and `leaves_buffers`
-//! here, to `report_of` in filter.rs and `touched_limits` in session.rs, to what writer.rs writes, and to `REFUSALS_OF_KIND` in tally.rs.
+//! The ledger (SCOPE 6.5), written for the tests and apart from the board: the calls' slot counts, the cancelled calls, the draft, the rules and the kept
+//! boards, when a command or a question is refused, and what a command does. A new kind of command is added to the constants, to `body_length`, `kind_refusal`,
+//! `obey` and `leaves_buffers` here, to `report_of` in filter.rs and `touched_limits` in session.rs, to what writer.rs writes, and to `REFUSALS_OF_KIND` in
+//! tally.rs.
 
-use std::collections::BTreeMap;
+use std::collections::{BTreeMap, BTreeSet};
 
 pub const BOARD: u8 = 1;
 pub const HEAD: u8 = 2;
@@ -12,10 +13,11 @@ pub const LIFT: u8 = 5;
 pub const GAP: u8 = 6;
 pub const MARK: u8 = 7;
 pub const BACK: u8 = 8;
-pub const LAST_KIND: u8 = BACK;
+pub const CANCEL: u8 = 9;
+pub const LAST_KIND: u8 = CANCEL;
 
 /// Refusals have the numbers up to this one.
-pub const LAST_REFUSAL: usize = 27;
+pub const LAST_REFUSAL: usize = 29;
 
 /// The lengths of what is lent with a command.
 #[derive(Clone, Copy)]
@@ -52,7 +54,7 @@ pub fn body_length(kind: u8) -> Option<usize> {
         PUT => Some(0),
         LIFT => Some(1),
         GAP => Some(5),
-        MARK | BACK => Some(1),
+        MARK | BACK | CANCEL => Some(1),
         _ => None,
     }
 }
@@ -79,10 +81,14 @@ impl Rule {
 /// The rules in force, by their numbers.
 pub type Rules = BTreeMap<u8, Rule>;
 
+/// The calls that are cancelled.
+pub type Cancelled = BTreeSet<u8>;
+
 /// A board that is kept under a name.
 #[derive(Clone, Debug, PartialEq)]
 pub struct Kept {
     pub counts: Vec<u8>,
+    pub cancelled: Cancelled,
     pub rules: Rules,
 }
 
@@ -90,6 +96,7 @@ pub struct Kept {
 pub struct Ledger {
     /// the slots of each call
     pub counts: Vec<u8>,
+    pub cancelled: Cancelled,
     /// the draft, and the number that it is to come into force under
     pub draft: Option<(u8, Rule)>,
     pub rules: Rules,
@@ -132,6 +139,14 @@ impl Ledger {
         self.counts.get(call as usize).copied().unwrap_or(0)
     }
 
+    pub fn is_cancelled(&self, call: u8) -> bool {
+        self.cancelled.contains(&call)
+    }
+
+    fn names_cancelled(&self, calls: &[u8]) -> bool {
+        calls.iter().any(|call| self.is_cancelled(*call))
+    }
+
     /// The refusal of a command by its bytes and the lengths lent, or 0. Bytes left over count as a body of another length.
     pub fn refusal(&self, lent: Lengths, bytes: &[u8]) -> u8 {
         let formal = first(&[(lent.refusal(), lent.refusal() != 0), (read_refusal(bytes), read_refusal(bytes) != 0)]);
@@ -152,6 +167,7 @@ impl Ledger {
             GAP => self.gap_refusal(body[0], body[1], &body[2..4], body[4]),
             MARK => self.name_refusal(body[0]),
             BACK => self.back_refusal(body[0]),
+            CANCEL => self.cancel_refusal(body[0]),
             _ => unreachable!(),
         }
     }
@@ -167,6 +183,7 @@ impl Ledger {
             (7, number > 63),
             (8, !(1..=4).contains(&arity)),
             (9, calls.iter().any(|call| self.count(*call) == 0)),
+            (29, self.names_cancelled(calls)),
             (10, (0..calls.len()).any(|k| calls[..k].contains(&calls[k]))),
             (11, bad_spare(spare)),
         ])
@@ -202,6 +219,7 @@ impl Ledger {
             (7, number > 63),
             (23, !(1..=3).contains(&form)),
             (9, calls.iter().any(|call| self.count(*call) == 0)),
+            (29, self.names_cancelled(calls)),
             (10, calls[0] == calls[1]),
             (24, gap > if form == 3 { 0 } else { 31 }),
             (25, self.fitting_rows(form, calls, gap).len() > 64),
@@ -217,6 +235,11 @@ impl Ledger {
         first(&[(before, before != 0), (27, self.kept_under(name).is_none())])
     }
 
+    fn cancel_refusal(&self, call: u8) -> u8 {
+        let before = self.call_refusal(call);
+        first(&[(before, before != 0), (28, self.is_cancelled(call))])
+    }
+
     /// The board that is kept under a name, where there is one.
     pub fn kept_under(&self, name: u8) -> Option<&Kept> {
         self.kept.get(name as usize)?.as_ref()
@@ -230,6 +253,7 @@ impl Ledger {
         fitting.map(|(a, b)| [a as u8, b as u8, 255, 255]).collect()
     }
 
+    /// Of a cancellation, and of a question about a call.
     pub fn call_refusal(&self, call: u8) -> u8 {
         first(&[(6, self.no_board()), (18, self.count(call) == 0)])
     }
@@ -273,13 +297,14 @@ impl Ledger {
                 self.draft = Some((body[1], Rule { calls, rows }));
             }
             MARK => {
-                let kept = Kept { counts: self.counts.clone(), rules: self.rules.clone() };
-                self.kept[body[0] as usize] = Some(kept);
+                let (counts, cancelled) = (self.counts.clone(), self.cancelled.clone());
+                self.kept[body[0] as usize] = Some(Kept { counts, cancelled, rules: self.rules.clone() });
             }
             BACK => {
-                let Kept { counts, rules } = self.kept_under(body[0]).unwrap().clone();
-                (self.counts, self.rules, self.draft) = (counts, rules, None);
+                let Kept { counts, cancelled, rules } = self.kept_under(body[0]).unwrap().clone();
+                (self.counts, self.cancelled, self.rules, self.draft) = (counts, cancelled, rules, None);
             }
+            CANCEL => drop(self.cancelled.insert(body[0])),
             _ => unreachable!(),
         }
     }

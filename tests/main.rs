@@ -9,6 +9,7 @@
 mod altered;
 #[path = "../hosts/berth.rs"]
 mod berth;
+mod cancelled;
 mod filter;
 mod gaps;
 mod host;
@@ -44,6 +45,7 @@ fn main() {
         altered::run(&left);
         replay::run(&left);
         gaps::run(&left);
+        cancelled::run();
     }
     if matches!(&word[..], "" | "sheets") {
         sheet::run(&mut tally);

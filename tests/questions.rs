@@ -86,8 +86,13 @@ impl Session<'_> {
         let answer = self.host.memory().slot_state(n.call, n.slot);
         let Some(given) = self.answered(n, self.ledger.slot_refusal(n.call, n.slot), answer) else { return };
         let cause = self.host.memory().slots[32 * n.call as usize + n.slot as usize];
-        let due = if has(&self.open, (n.call, n.slot)) { Slot::Open } else { Slot::Struck { cause } };
+        let due = match self.ledger.is_cancelled(n.call) {
+            true => Slot::Cancelled,
+            false if has(&self.open, (n.call, n.slot)) => Slot::Open,
+            false => Slot::Struck { cause },
+        };
         assert_eq!(given, due, "a slot's state: {n:?}");
+        self.tally.cancelled.count("states of a cancelled slot", due == Slot::Cancelled);
     }
 
     fn ask_row_state(&mut self, n: &Numbers) {
@@ -95,9 +100,12 @@ impl Session<'_> {
         let Some(given) = self.answered(n, self.ledger.row_state_refusal(n.rule, n.row), answer) else { return };
         let rule = &self.ledger.rules[&n.rule];
         let killer = self.host.memory().killers[64 * n.rule as usize + n.row as usize];
-        let alive = is_alive(rule, rule.rows[n.row as usize], &self.open);
+        let alive = is_alive(&self.ledger, rule, rule.rows[n.row as usize], &self.open);
         let due = if alive { Row::Alive } else { Row::Dead { killer } };
         assert_eq!(given, due, "a row's state: {n:?}");
+        let on_cancelled = rule.calls.iter().any(|call| self.ledger.is_cancelled(*call));
+        self.tally.cancelled.count("living rows with a cancelled column", on_cancelled && alive);
+        self.tally.cancelled.count("dead rows with a cancelled column", on_cancelled && !alive);
     }
 
     /// The row's bytes are a part of the lent rows; where the row's state is refused they are the empty part.
@@ -114,13 +122,18 @@ impl Session<'_> {
         assert_eq!(bytes, self.ledger.rules[&n.rule].rows[n.row as usize], "a row's bytes: {n:?}");
     }
 
+    /// In the column of a cancelled call there is none, whatever lives.
     fn ask_support(&mut self, n: &Numbers) {
         let answer = self.host.memory().support(n.rule, n.column, n.slot);
         let refusal = self.ledger.support_refusal(n.rule, n.column, n.slot);
         let Some(given) = self.answered(n, refusal, answer) else { return };
         let rule = &self.ledger.rules[&n.rule];
-        let supports = |row: &[u8; 4]| row[n.column as usize] == n.slot && is_alive(rule, *row, &self.open);
+        let lives = |row: [u8; 4]| is_alive(&self.ledger, rule, row, &self.open);
+        let supports = |row: &[u8; 4]| row[n.column as usize] == n.slot && lives(*row);
         let lowest = rule.rows.iter().position(supports).map(|row| row as u8);
-        assert_eq!(given, lowest, "the support: {n:?}");
+        let cancelled = self.ledger.is_cancelled(rule.calls[n.column as usize]);
+        assert_eq!(given, lowest.filter(|_| !cancelled), "the support: {n:?}");
+        let withheld = cancelled && lowest.is_some();
+        self.tally.cancelled.count("living rows that support nothing in a cancelled column", withheld);
     }
 }

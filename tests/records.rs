@@ -1,7 +1,7 @@
 //! What the buffers hold after a command, byte by byte: rows, open slots, causes and killers; and that there is no ring (SCOPE 1.13).
 
 use crate::berth::lent::Memory;
-use crate::filter::{all_slots, has, is_alive, slots_in, Slots};
+use crate::filter::{has, is_alive, slots_in, struck_slots, Slots};
 use crate::ledger::{Ledger, Rule};
 
 /// All of it, on a board whose open slots are these.
@@ -9,7 +9,7 @@ pub fn check(ledger: &Ledger, open: &Slots, memory: Memory) {
     check_rows(ledger, memory.rows);
     check_slots(ledger, open, memory.slots);
     check_killers(ledger, open, memory.killers);
-    check_rings(ledger, open, memory);
+    check_rings(ledger, &struck_slots(ledger, open), memory);
 }
 
 fn check_rows(ledger: &Ledger, bytes: &[u8]) {
@@ -21,31 +21,33 @@ fn check_rows(ledger: &Ledger, bytes: &[u8]) {
     }
 }
 
-/// 254 off the board, 255 for an open slot, and for a struck one its cause, which has to be in force and on that call.
+/// 254 off the board, 253 for each slot of a cancelled call, 255 for an open one, and for a struck one its cause, which has to be in force and on that call.
 fn check_slots(ledger: &Ledger, open: &Slots, bytes: &[u8]) {
     for (place, byte) in bytes.iter().enumerate() {
         let (call, slot) = ((place / 32) as u8, (place % 32) as u8);
         let right = match byte {
             254 => slot >= ledger.count(call),
+            253 => slot < ledger.count(call) && ledger.is_cancelled(call),
             255 => slot < ledger.count(call) && has(open, (call, slot)),
             cause => {
                 let on_call = ledger.rules.get(cause).is_some_and(|rule| rule.calls.contains(&call));
-                slot < ledger.count(call) && !has(open, (call, slot)) && on_call
+                let is_struck = !ledger.is_cancelled(call) && !has(open, (call, slot));
+                slot < ledger.count(call) && is_struck && on_call
             }
         };
         assert!(right, "slot {slot} of call {call} has the byte {byte}; open are {open:x?}");
     }
 }
 
-/// The column of a struck slot for a dead row; 255 for a living one and where there is none.
+/// The column of a struck slot for a dead row, so never that of a cancelled call; 255 for a living one and where there is none.
 fn check_killers(ledger: &Ledger, open: &Slots, bytes: &[u8]) {
-    let none = Rule::default();
+    let (none, struck) = (Rule::default(), struck_slots(ledger, open));
     for (number, block) in bytes.chunks(64).enumerate() {
         let rule = ledger.rules.get(&(number as u8)).unwrap_or(&none);
         for (w, killer) in block.iter().enumerate() {
             let right = match rule.rows.get(w) {
-                Some(row) if !is_alive(rule, *row, open) => {
-                    rule.cells(*row).nth(*killer as usize).is_some_and(|cell| !has(open, cell))
+                Some(row) if !is_alive(ledger, rule, *row, open) => {
+                    rule.cells(*row).nth(*killer as usize).is_some_and(|cell| has(&struck, cell))
                 }
                 _ => *killer == 255,
             };
@@ -55,8 +57,8 @@ fn check_killers(ledger: &Ledger, open: &Slots, bytes: &[u8]) {
 }
 
 /// From no slot on, those join whose rows in their cause all have their killers among the slots that have joined. Slots that never join would be a ring.
-fn check_rings(ledger: &Ledger, open: &Slots, memory: Memory) {
-    let mut joined: Slots = vec![0; open.len()];
+fn check_rings(ledger: &Ledger, struck: &Slots, memory: Memory) {
+    let mut joined: Slots = vec![0; struck.len()];
     loop {
         let before = joined.clone();
         for (number, rule) in &ledger.rules {
@@ -71,8 +73,7 @@ fn check_rings(ledger: &Ledger, open: &Slots, memory: Memory) {
             break;
         }
     }
-    let struck: Slots = all_slots(ledger).iter().zip(open).map(|(all, open)| all & !open).collect();
-    assert!(joined == struck, "a ring: of the struck slots {struck:x?} only {joined:x?} are in none");
+    assert!(joined == *struck, "a ring: of the struck slots {struck:x?} only {joined:x?} are in none");
 }
 
 /// The slots of a call that have this cause.

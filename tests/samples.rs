@@ -1,8 +1,9 @@
-//! Samples whose values are written out: the texts in samples/, whose sheets stand beside them, the sample boards (SCOPE 8), gap rules and marks.
+//! Samples whose values are written out: the texts in samples/, whose sheets stand beside them, the sample boards (SCOPE 8), gap rules, marks and cancelled
+//! calls.
 
 use crate::berth::{Board, Row, Slot, Summary};
 use crate::host::number_of;
-use crate::ledger::{BACK, GAP, LAST_KIND, MARK};
+use crate::ledger::{BACK, CANCEL, GAP, HEAD, LAST_KIND, MARK};
 use crate::sheet::{check_total, program_writes, sheet_of};
 use crate::tally::Tally;
 use std::path::Path;
@@ -31,7 +32,7 @@ fn check_texts(tally: &mut Tally) {
         check_total(&bytes, &sheet, tally);
         seen.push(text.file_stem().unwrap().to_str().unwrap().to_owned());
     }
-    for name in ["ac3-example", "harbour", "pilot", "session", "storm"] {
+    for name in ["ac3-example", "fog", "harbour", "pilot", "session", "storm"] {
         assert!(seen.iter().any(|other| other == name), "there is no sample {name}");
     }
     tally.files += seen.len();
@@ -282,6 +283,150 @@ fn check_mark_refusals() {
     assert_eq!([0, 1].map(|name| number_of(&board.back(name))), [27; 2]);
 }
 
+/// The call is cancelled. S is 0, and R and T are to be these.
+fn cancel(board: &mut Board, call: u8, [reopened, touched]: [usize; 2]) {
+    let report = board.cancel(call).unwrap();
+    let found = [report.struck, report.reopened, report.touched];
+    assert_eq!(found, [0, reopened, touched], "S, R and T of the cancellation of call {call}");
+}
+
+/// Call 1 of P2 is cancelled. Slot 1 of call 0 and slot 1 of call 2 leaned on its struck slots, and are open again. Slot 2 of call 0, which is in no row, stays
+/// struck.
+fn check_cancel() {
+    let mut board = Board::new();
+    board.start(&[3, 3, 2]).unwrap();
+    put(&mut board, 0, &[0, 1], &[&[0, 1], &[0, 2], &[1, 2]], 2);
+    put(&mut board, 1, &[1, 2], &[&[1, 0], &[0, 1]], 3);
+    cancel(&mut board, 1, [2, 2]);
+    assert_eq!([0, 1, 2].map(|call| open(&board, call)), [vec![0, 1], vec![], vec![0, 1]]);
+    assert_eq!(figures(&board), [(2, 1, 1), (0, 0, 2), (2, 0, 1)]);
+    assert_eq!([0, 1, 2].map(|slot| board.slot_state(1, slot)), [Ok(Slot::Cancelled); 3]);
+    assert_eq!(number_of(&board.slot_state(1, 3)), 19);
+    assert_eq!(board.slot_state(0, 2), Ok(Slot::Struck { cause: 0 }));
+    assert_eq!([0, 1, 2].map(|row| board.row_state(0, row)), [Ok(Row::Alive); 3]);
+    assert_eq!([0, 1].map(|row| board.row_state(1, row)), [Ok(Row::Alive); 2]);
+    assert_eq!([0, 1, 2].map(|slot| board.support(0, 1, slot)), [Ok(None); 3], "in the cancelled column");
+    assert_eq!([0, 1, 2].map(|slot| board.support(0, 0, slot)), [Ok(Some(0)), Ok(Some(2)), Ok(None)]);
+    assert_eq!(board.support(1, 1, 1), Ok(Some(1)));
+    assert_eq!((number_of(&board.support(0, 1, 3)), number_of(&board.support(0, 2, 0))), (19, 21));
+    assert_eq!(board.lift(0).unwrap().reopened, 1);
+    assert_eq!(figures(&board), [(3, 0, 0), (0, 0, 1), (2, 0, 1)]);
+}
+
+/// A row has a struck slot in both columns. Its killer was in the column of the call that is cancelled, and is in the other then: the row stays dead.
+fn check_other_killer() {
+    let mut board = Board::new();
+    board.start(&[2, 2]).unwrap();
+    put(&mut board, 5, &[0], &[&[1]], 1);
+    put(&mut board, 6, &[1], &[&[1]], 1);
+    put(&mut board, 7, &[0, 1], &[&[0, 0], &[1, 1]], 0);
+    assert_eq!(board.row_state(7, 0), Ok(Row::Dead { killer: 0 }));
+    cancel(&mut board, 0, [0, 0]);
+    assert_eq!([0, 1].map(|row| board.row_state(7, row)), [Ok(Row::Dead { killer: 1 }), Ok(Row::Alive)]);
+    assert_eq!(figures(&board), [(0, 0, 2), (1, 1, 2)]);
+    assert_eq!(board.lift(6).unwrap().reopened, 1);
+    assert_eq!([0, 1].map(|row| board.row_state(7, row)), [Ok(Row::Alive); 2]);
+}
+
+/// A touched slot is struck again: slot 1 of call 0 leaned on call 1, and has no row in rule 2 either.
+fn check_struck_again() {
+    let mut board = Board::new();
+    board.start(&[2, 2]).unwrap();
+    put(&mut board, 0, &[0, 1], &[&[0, 0], &[1, 1]], 0);
+    put(&mut board, 1, &[1], &[&[0]], 2);
+    put(&mut board, 2, &[0], &[&[0]], 0);
+    assert_eq!(board.slot_state(0, 1), Ok(Slot::Struck { cause: 0 }));
+    cancel(&mut board, 1, [0, 1]);
+    assert_eq!(board.slot_state(0, 1), Ok(Slot::Struck { cause: 2 }));
+    assert_eq!(figures(&board), [(1, 1, 2), (0, 0, 2)]);
+}
+
+/// A rule without rows goes on striking its other call, and nothing where all its calls are cancelled. A rule put on a cancelled call does the same.
+fn check_cancelled_without_rows() {
+    let mut board = Board::new();
+    board.start(&[2, 3]).unwrap();
+    put(&mut board, 9, &[0, 1], &[], 5);
+    cancel(&mut board, 0, [0, 0]);
+    assert_eq!(figures(&board), [(0, 0, 1), (0, 3, 1)]);
+    assert_eq!(board.lift(9).unwrap().reopened, 3);
+    board.start(&[2, 3]).unwrap();
+    board.head(9, &[0, 1]).unwrap();
+    cancel(&mut board, 0, [0, 0]);
+    assert_eq!(board.put().unwrap().struck, 3, "a rule without rows on a cancelled call");
+    board.head(8, &[1]).unwrap();
+    cancel(&mut board, 1, [0, 0]);
+    assert_eq!(board.put().unwrap().struck, 0, "a rule on cancelled calls alone");
+    assert_eq!(figures(&board), [(0, 0, 1), (0, 0, 2)]);
+}
+
+/// A draft from before the cancellation can get rows, with any slot that the call had, and is put: it binds its other call alone.
+fn check_cancelled_draft() {
+    let mut board = Board::new();
+    board.start(&[3, 4]).unwrap();
+    board.head(3, &[0, 1]).unwrap();
+    board.row(&[0, 1]).unwrap();
+    cancel(&mut board, 0, [0, 0]);
+    assert_eq!([[2, 3], [2, 3], [3, 2], [0, 4]].map(|row| number_of(&board.row(&row))), [0, 15, 14, 14]);
+    assert_eq!(board.put().unwrap().struck, 2);
+    assert_eq!([0, 1].map(|call| open(&board, call)), [vec![], vec![1, 3]]);
+    assert_eq!([1, 3].map(|slot| board.support(3, 1, slot)), [Ok(Some(0)), Ok(Some(1))]);
+    assert_eq!(board.lift(3).unwrap().reopened, 2);
+}
+
+/// A back brings back the cancellations of its mark and no others. A slot of a call that is cancelled before or after it is in no count.
+fn check_cancelled_marks() {
+    let mut board = Board::new();
+    board.start(&[3, 3, 2]).unwrap();
+    put(&mut board, 0, &[0, 1], &[&[0, 1], &[0, 2], &[1, 2]], 2);
+    put(&mut board, 1, &[1, 2], &[&[1, 0], &[0, 1]], 3);
+    board.mark(0).unwrap();
+    cancel(&mut board, 1, [2, 2]);
+    board.mark(1).unwrap();
+    cancel(&mut board, 0, [0, 0]);
+    back(&mut board, 0, [1, 0, 1]);
+    assert_eq!([0, 1, 2].map(|call| open(&board, call)), [[0], [1], [0]], "P2");
+    assert_eq!(board.slot_state(1, 0), Ok(Slot::Struck { cause: 0 }), "P2");
+    cancel(&mut board, 2, [0, 0]);
+    back(&mut board, 1, [0, 1, 1]);
+    assert_eq!(figures(&board), [(2, 1, 1), (0, 0, 2), (2, 0, 1)]);
+    assert_eq!(number_of(&board.cancel(1)), 28);
+    assert_eq!(number_of(&board.start(&[33])), 5);
+    assert_eq!(number_of(&board.cancel(1)), 28);
+    board.start(&[3, 3, 2]).unwrap();
+    assert_eq!(figures(&board), [(3, 0, 0), (3, 0, 0), (2, 0, 0)]);
+    cancel(&mut board, 1, [0, 0]);
+}
+
+/// Cancellations, and new rules on a cancelled call, with several things wrong, and fewer from one to the next. The draft that there is stays.
+fn check_cancel_refusals() {
+    let mut board = Board::new();
+    assert_eq!(number_of(&board.command(&[LAST_KIND + 1, 0])), 3);
+    assert_eq!(number_of(&board.command(&[CANCEL])), 4);
+    assert_eq!(number_of(&board.command(&[CANCEL, 2, 0])), 4);
+    assert_eq!([0, 255].map(|call| number_of(&board.cancel(call))), [6; 2]);
+    board.start(&[9, 9]).unwrap();
+    assert_eq!([2, 31, 32, 255].map(|call| number_of(&board.cancel(call))), [18; 4]);
+    board.head(7, &[1]).unwrap();
+    board.row(&[4]).unwrap();
+    cancel(&mut board, 0, [0, 0]);
+    assert_eq!([0, 2].map(|call| number_of(&board.cancel(call))), [28, 18]);
+    let mut head = |fields: [u8; 6]| number_of(&board.command(&[&[HEAD], &fields[..]].concat()));
+    assert_eq!(head([64, 5, 0, 0, 2, 0]), 7);
+    assert_eq!(head([63, 5, 0, 0, 2, 0]), 8);
+    assert_eq!(head([63, 3, 0, 0, 2, 0]), 9);
+    assert_eq!(head([63, 2, 0, 0, 2, 0]), 29);
+    assert_eq!(head([63, 2, 1, 0, 2, 0]), 29);
+    assert_eq!(head([63, 2, 1, 1, 0, 0]), 10);
+    assert_eq!(head([63, 1, 1, 0, 0, 0]), 11, "the cancelled call stands past the arity");
+    assert_eq!(gap_refusal(&mut board, 4, 63, [0, 0], 32), 23);
+    assert_eq!(gap_refusal(&mut board, 2, 63, [0, 2], 32), 9);
+    assert_eq!(gap_refusal(&mut board, 2, 63, [0, 0], 32), 29);
+    assert_eq!(gap_refusal(&mut board, 2, 63, [0, 1], 32), 29);
+    assert_eq!(gap_refusal(&mut board, 2, 63, [1, 0], 0), 29);
+    assert_eq!(gap_refusal(&mut board, 2, 63, [1, 1], 32), 10);
+    assert_eq!(board.put().unwrap().struck, 8, "the draft that they left");
+}
+
 pub fn run(tally: &mut Tally) {
     crate::place::list("samples", 0);
     check_put_and_lift();
@@ -295,6 +440,13 @@ pub fn run(tally: &mut Tally) {
     check_marks();
     check_mark_drafts();
     check_mark_refusals();
+    check_cancel();
+    check_other_killer();
+    check_struck_again();
+    check_cancelled_without_rows();
+    check_cancelled_draft();
+    check_cancelled_marks();
+    check_cancel_refusals();
     check_texts(tally);
-    println!("samples: the sample boards, gap rules, marks and the texts of samples/");
+    println!("samples: the sample boards, gap rules, marks, cancelled calls and the texts of samples/");
 }

@@ -15,6 +15,7 @@ pub struct Session<'a> {
     pub board: Board,
     pub ledger: Ledger,
     pub open: Slots,
+    pub struck: Slots,
     /// whether a gap rule began the draft
     gap_draft: bool,
     /// the buffers at the last mark of each name
@@ -24,11 +25,11 @@ pub struct Session<'a> {
     pub tally: &'a mut Tally,
 }
 
-/// What T may be; so many slots were struck before.
+/// What T may be; so many slots of calls that are not cancelled were struck before.
 fn touched_limits(kind: u8, struck: usize, reopened: usize, struck_before: usize) -> RangeInclusive<usize> {
     match kind {
         ledger::PUT => struck..=struck,
-        ledger::LIFT => reopened..=struck_before,
+        ledger::LIFT | ledger::CANCEL => reopened..=struck_before,
         ledger::BACK => struck + reopened..=struck + reopened,
         _ => 0..=0,
     }
@@ -40,7 +41,8 @@ impl<'a> Session<'a> {
         let (host, board, ledger) = (Host::fresh_beside(&Fenced::new(marks)), Board::new(), Ledger::default());
         assert_eq!(host.value, value_of(&ledger), "the value before the first command");
         let (kept, past) = ([None, None], [Past::Nothing; 2]);
-        let session = Session { host, board, ledger, open: vec![], gap_draft: false, kept, past, tally };
+        let (open, struck) = (vec![], vec![]);
+        let session = Session { host, board, ledger, open, struck, gap_draft: false, kept, past, tally };
         session.check_board();
         session
     }
@@ -52,6 +54,7 @@ impl<'a> Session<'a> {
         assert_eq!(number_of(&answer), refusal, "the refusal of {bytes:?}");
         self.tally.command(bytes, refusal, &self.ledger);
         self.tally.marks.command(&mut self.past, bytes, &answer, &self.ledger);
+        self.tally.cancelled.command(bytes, &answer, &self.ledger, &self.open);
         if let Ok(report) = answer {
             self.accepted(bytes, report, &before);
         }
@@ -69,8 +72,8 @@ impl<'a> Session<'a> {
             _ => (),
         }
         if refusal == 0 {
-            let stays = self.gap_draft && matches!(bytes[0], ledger::ROW | ledger::LIFT | ledger::MARK);
-            self.gap_draft = stays || bytes[0] == ledger::GAP;
+            let stays = matches!(bytes[0], ledger::ROW | ledger::LIFT | ledger::MARK | ledger::CANCEL);
+            self.gap_draft = self.gap_draft && stays || bytes[0] == ledger::GAP;
         }
     }
 
@@ -87,15 +90,16 @@ impl<'a> Session<'a> {
     fn accepted(&mut self, bytes: &[u8], report: Report, before: &Host) {
         self.ledger.obey(bytes);
         assert_eq!(self.host.value, value_of(&self.ledger), "the value after {bytes:?}");
-        let open_before = self.open.clone();
+        let before_it = [self.open.clone(), self.struck.clone()];
         if ledger::leaves_buffers(bytes[0]) {
             assert!(self.host.buffers == before.buffers, "{bytes:?} writes to the buffers");
         } else {
             self.open = filter::open_slots(&self.ledger);
+            self.struck = filter::struck_slots(&self.ledger, &self.open);
             crate::records::check(&self.ledger, &self.open, self.host.memory());
         }
         self.check_kept(bytes);
-        self.check_report(bytes, report, &open_before);
+        self.check_report(bytes, report, before_it.each_ref());
     }
 
     /// Every byte that a back leaves is what it was at the mark. (host.rs asserts what the marks are after each command.)
@@ -110,13 +114,15 @@ impl<'a> Session<'a> {
         }
     }
 
-    fn check_report(&mut self, bytes: &[u8], report: Report, open_before: &Slots) {
-        let (struck, reopened) = filter::report_of(bytes[0], open_before, &self.open);
+    /// The open and the struck slots before the command are these. Of a cancellation S is 0, and the call's own slots are in no count.
+    fn check_report(&mut self, bytes: &[u8], report: Report, before: [&Slots; 2]) {
+        let (struck, reopened) = filter::report_of(bytes[0], before, [&self.open, &self.struck]);
         assert_eq!((report.struck, report.reopened), (struck, reopened), "S and R of {bytes:?}");
-        let struck_before = filter::lost(&filter::all_slots(&self.ledger), open_before);
+        assert!(bytes[0] != ledger::CANCEL || struck == 0, "{bytes:?} strikes something");
+        let struck_before = filter::common(before[1], &filter::all_slots(&self.ledger));
         let limits = touched_limits(bytes[0], struck, reopened, struck_before);
         assert!(limits.contains(&report.touched), "T of {bytes:?} is {}, and not in {limits:?}", report.touched);
-        self.tally.report(report);
+        self.tally.report(bytes[0], report);
     }
 
     /// The wrapper's own board has come to hold the same, marks among it where a board is kept, and a current table.

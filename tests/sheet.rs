@@ -2,7 +2,7 @@
 //! summary table and slot bytes, too.
 
 use crate::berth::Board;
-use crate::filter::{has, open_slots, report_of, Slots};
+use crate::filter::{has, open_slots, report_of, struck_slots, Slots};
 use crate::ledger::{body_length, leaves_buffers, read_refusal, Ledger, LAST_KIND, LENGTHS, PUT};
 use crate::random::Random;
 use crate::summary::open_sum;
@@ -21,6 +21,7 @@ struct Sheet {
     text: String,
     ledger: Ledger,
     open: Slots,
+    struck: Slots,
 }
 
 impl Sheet {
@@ -37,17 +38,23 @@ impl Sheet {
         }
         tally.sheet_lines[kind as usize] += 1;
         self.ledger.obey(bytes);
-        let before = self.open.clone();
+        let before = [self.open.clone(), self.struck.clone()];
         if !leaves_buffers(kind) {
             self.open = open_slots(&self.ledger);
+            self.struck = struck_slots(&self.ledger, &self.open);
         }
-        let (struck, reopened) = report_of(kind, &before, &self.open);
+        let (struck, reopened) = report_of(kind, before.each_ref(), [&self.open, &self.struck]);
         self.text += &format!("a {kind} {struck} {reopened}\n");
         length
     }
 
-    fn call(&mut self, call: u8) {
+    /// A cancelled call has a dash; one with nothing open has its number alone.
+    fn call(&mut self, call: u8, tally: &mut Tally) {
         self.text += &format!("c {call}");
+        if self.ledger.is_cancelled(call) {
+            self.text += " -";
+            tally.dashes += 1;
+        }
         for slot in (0..32).filter(|slot| has(&self.open, (call, *slot))) {
             self.text += &format!(" {slot}");
         }
@@ -69,7 +76,7 @@ pub fn sheet_of(file: &[u8], tally: &mut Tally) -> String {
         }
     }
     for call in 0..sheet.ledger.counts.len() {
-        sheet.call(call as u8);
+        sheet.call(call as u8, tally);
     }
     if !sheet.ledger.counts.is_empty() {
         let open: u32 = sheet.open.iter().map(|mask| mask.count_ones()).sum();

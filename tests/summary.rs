@@ -5,11 +5,12 @@ use crate::filter::Slots;
 use crate::ledger::Ledger;
 use crate::random::Random;
 
-/// A call that is not on the board has no slots and no rules.
+/// A call that is not on the board has no slots and no rules. A cancelled one has no open and no struck slot, and the rules on it count as ever.
 fn record_of(ledger: &Ledger, open: &Slots, call: u8) -> Summary {
     let open = open.get(call as usize).map_or(0, |mask| mask.count_ones() as u8);
+    let slots = if ledger.is_cancelled(call) { 0 } else { ledger.count(call) };
     let rules = ledger.rules.values().filter(|rule| rule.calls.contains(&call));
-    Summary { open, struck: ledger.count(call) - open, rules: rules.count() as u8 }
+    Summary { open, struck: slots - open, rules: rules.count() as u8 }
 }
 
 /// The records of a board whose open slots are these.

@@ -1,7 +1,8 @@
 //! How often each thing was seen, so that the tests can say that they were not idle.
 
 use crate::berth::Report;
-use crate::ledger::{Ledger, BACK, BOARD, GAP, HEAD, LAST_KIND, LAST_REFUSAL, LIFT, MARK, PUT, ROW};
+use crate::cancelled::Cancellations;
+use crate::ledger::{Ledger, BACK, BOARD, CANCEL, GAP, HEAD, LAST_KIND, LAST_REFUSAL, LIFT, MARK, PUT, ROW};
 use crate::marks::Marks;
 use std::collections::BTreeMap;
 
@@ -11,13 +12,14 @@ pub type Refusals = [usize; LAST_REFUSAL + 1];
 /// The refusals of each kind (SCOPE 4.3). 3 is left out, since it is of no kind.
 const REFUSALS_OF_KIND: [(u8, &[usize]); LAST_KIND as usize] = [
     (BOARD, &[1, 22, 4, 5]),
-    (HEAD, &[1, 22, 4, 6, 7, 8, 9, 10, 11]),
+    (HEAD, &[1, 22, 4, 6, 7, 8, 9, 29, 10, 11]),
     (ROW, &[1, 22, 4, 6, 12, 13, 14, 11, 15]),
     (PUT, &[1, 22, 4, 6, 12, 16]),
     (LIFT, &[1, 22, 4, 6, 7, 17]),
-    (GAP, &[1, 22, 4, 6, 7, 23, 9, 10, 24, 25]),
+    (GAP, &[1, 22, 4, 6, 7, 23, 9, 29, 10, 24, 25]),
     (MARK, &[1, 22, 4, 6, 26]),
     (BACK, &[1, 22, 4, 6, 26, 27]),
+    (CANCEL, &[1, 22, 4, 6, 18, 28]),
 ];
 
 /// Gap rules in lists, and the drafts that they begin.
@@ -44,6 +46,8 @@ pub struct Tally {
     pub altered_tables: usize,
     /// sheets whose total was compared with a table and with the slot bytes
     pub totals: usize,
+    /// cancelled calls on sheets
+    pub dashes: usize,
     /// commands that sheets show as accepted, by their kind
     pub sheet_lines: [usize; LAST_KIND as usize + 1],
     /// of commands, questions and lines of sheets
@@ -52,6 +56,7 @@ pub struct Tally {
     pub kinds: [Refusals; LAST_KIND as usize + 1],
     pub gaps: Gaps,
     pub marks: Marks,
+    pub cancelled: Cancellations,
     pub struck: usize,
     pub reopened: usize,
     /// lifts that touched more slots than they reopened
@@ -71,18 +76,18 @@ impl Tally {
         self.most_rows = self.most_rows.max(ledger.draft.as_ref().map_or(0, |(_, rule)| rule.rows.len()));
     }
 
-    pub fn report(&mut self, report: Report) {
+    pub fn report(&mut self, kind: u8, report: Report) {
         self.struck += report.struck;
         self.reopened += report.reopened;
-        self.struck_again += (report.struck == 0 && report.touched > report.reopened) as usize;
+        self.struck_again += (kind == LIFT && report.touched > report.reopened) as usize;
     }
 
     pub fn print(&self) {
         let Tally { lists, commands, questions, files, struck, reopened, struck_again, .. } = self;
         println!("{lists} lists, {commands} commands, {questions} questions, {files} files");
         println!(
-            "{} summary tables, {} of them altered before; {} totals",
-            self.tables, self.altered_tables, self.totals
+            "{} summary tables, {} of them altered before; {} totals, {} cancelled calls on sheets",
+            self.tables, self.altered_tables, self.totals, self.dashes
         );
         println!("{struck} slots struck, {reopened} reopened; {struck_again} lifts struck some again");
         println!("at most {} rules in force, {} rows in a draft", self.most_rules, self.most_rows);
@@ -99,6 +104,7 @@ impl Tally {
         }
         self.gaps.print();
         self.marks.print();
+        self.cancelled.print();
     }
 
     /// Every refusal was seen, lifts reopened slots and struck some again, a board and a draft were full, and tables were altered.
@@ -108,9 +114,11 @@ impl Tally {
         self.check_kinds();
         self.gaps.check_complete();
         self.marks.check_complete();
+        self.cancelled.check_complete();
         assert!(self.reopened > 0 && self.struck_again > 0, "no lift did anything");
         assert!((self.most_rules, self.most_rows) == (64, 64), "no board was full");
         assert!(self.altered_tables > 0 && self.totals > 0, "no table was altered, or no sheet had a total");
+        assert!(self.dashes > 0, "no sheet shows a cancelled call");
     }
 
     /// Each kind was accepted in lists, and refused under each of its numbers.

@@ -1,7 +1,7 @@
 //! The writer of random commands: what a list is to do next is planned from the ledger, and some commands are damaged. Whether one is refused is not for the
 //! writer to know.
 
-use crate::ledger::{self, Ledger, BACK, BOARD, GAP, HEAD, LAST_KIND, LIFT, MARK, PUT, ROW};
+use crate::ledger::{self, Ledger, BACK, BOARD, CANCEL, GAP, HEAD, LAST_KIND, LIFT, MARK, PUT, ROW};
 use crate::random::Random;
 use std::collections::VecDeque;
 
@@ -21,14 +21,16 @@ pub struct Sizes {
     pub lifts: usize,
     /// commands from one mark or back to the next, on average
     pub marks: usize,
+    /// and from one cancellation to the next, in lists that have them
+    pub cancels: usize,
 }
 
 #[rustfmt::skip]
 pub const SIZES: [Sizes; 4] = [
-    Sizes { name: "small", lists: 4000, commands: 120, calls: (1, 5), slots: (1, 4), rows: 10, numbers: 9, lifts: 50, marks: 15 },
-    Sizes { name: "middle", lists: 500, commands: 400, calls: (3, 12), slots: (2, 12), rows: 40, numbers: 24, lifts: 40, marks: 30 },
-    Sizes { name: "large", lists: 70, commands: 1200, calls: (20, 32), slots: (16, 32), rows: 64, numbers: 64, lifts: 35, marks: 60 },
-    Sizes { name: "full", lists: 5, commands: 9000, calls: (32, 32), slots: (32, 32), rows: 64, numbers: 64, lifts: 8, marks: 300 },
+    Sizes { name: "small", lists: 4000, commands: 120, calls: (1, 5), slots: (1, 4), rows: 10, numbers: 9, lifts: 50, marks: 15, cancels: 25 },
+    Sizes { name: "middle", lists: 500, commands: 400, calls: (3, 12), slots: (2, 12), rows: 40, numbers: 24, lifts: 40, marks: 30, cancels: 50 },
+    Sizes { name: "large", lists: 70, commands: 1200, calls: (20, 32), slots: (16, 32), rows: 64, numbers: 64, lifts: 35, marks: 60, cancels: 80 },
+    Sizes { name: "full", lists: 5, commands: 9000, calls: (32, 32), slots: (32, 32), rows: 64, numbers: 64, lifts: 8, marks: 300, cancels: 300 },
 ];
 
 pub struct Writer {
@@ -36,6 +38,8 @@ pub struct Writer {
     sizes: &'static Sizes,
     /// commands to come
     plan: VecDeque<Vec<u8>>,
+    /// one list in three cancels next to nothing, so that more rules strike
+    cancels: bool,
 }
 
 /// A command's bytes, with 255 in the fields that are left out.
@@ -47,14 +51,17 @@ fn command(kind: u8, fields: &[u8]) -> Vec<u8> {
 
 impl Writer {
     pub fn new(seed: u64, sizes: &'static Sizes) -> Self {
-        Writer { random: Random(seed), sizes, plan: VecDeque::new() }
+        Writer { random: Random(seed), sizes, plan: VecDeque::new(), cancels: seed % 3 != 0 }
     }
 
-    /// The next command. About one in eight is a damaged copy of what is planned, which then comes all the same; now and then a plan is given up. Marks and backs
-    /// come at any time.
+    /// The next command. About one in eight is a damaged copy of what is planned, which then comes all the same; now and then a plan is given up. Marks, backs
+    /// and cancellations come at any time.
     pub fn next(&mut self, ledger: &Ledger) -> Vec<u8> {
         if self.random.below(self.sizes.marks) == 0 {
             self.mark_or_back(ledger);
+        }
+        if self.cancels && self.random.below(self.sizes.cancels) == 0 {
+            self.cancel(ledger);
         }
         if self.plan.is_empty() || self.random.below(200) == 0 {
             self.plan = self.new_plan(ledger).into();
@@ -67,7 +74,9 @@ impl Writer {
 
     fn new_plan(&mut self, ledger: &Ledger) -> Vec<Vec<u8>> {
         let random = &mut self.random;
-        if random.below(self.sizes.commands) == 0 || ledger.counts.is_empty() && random.percent(75) {
+        let none_left = ledger.cancelled.len() == ledger.counts.len();
+        let start = if ledger.counts.is_empty() { 75 } else { 10 };
+        if random.below(self.sizes.commands) == 0 || none_left && random.percent(start) {
             return vec![board(random, self.sizes)];
         }
         if let Some((number, _)) = ledger.draft.as_ref().filter(|_| random.percent(50)) {
@@ -78,7 +87,7 @@ impl Writer {
             return vec![vec![LIFT, in_force(random, ledger)]];
         }
         // a gap rule needs two calls
-        if random.percent(if ledger.counts.len() == 1 { 3 } else { 30 }) {
+        if random.percent(if ledger.counts.len() <= ledger.cancelled.len() + 1 { 3 } else { 30 }) {
             return self.gap_rule(ledger);
         }
         self.rule(ledger)
@@ -95,6 +104,15 @@ impl Writer {
             self.plan.clear();
         }
         self.plan.push_front(vec![BACK, kept_name(random, ledger)]);
+    }
+
+    /// A cancellation comes before what is planned, so that drafts on the call go on. Where half of the calls are cancelled it mostly does not come: a board
+    /// has to have rules that strike.
+    fn cancel(&mut self, ledger: &Ledger) {
+        let random = &mut self.random;
+        if 2 * ledger.cancelled.len() < ledger.counts.len() || random.percent(25) {
+            self.plan.push_front(vec![CANCEL, some_call(random, ledger)]);
+        }
     }
 
     /// A number for a rule, mostly a free one.
@@ -122,7 +140,8 @@ impl Writer {
         let number = self.number(ledger);
         let random = &mut self.random;
         let arity = *random.choose(&[1, 2, 2, 2, 2, 3, 3, 4]);
-        let calls = some_calls(random, arity, ledger.counts.len());
+        let among = calls_for_rule(random, ledger);
+        let calls = some_calls(random, arity, &among);
         let head = command(HEAD, &[&[number, calls.len() as u8], &calls[..]].concat());
         let counts: Vec<usize> = calls.iter().map(|call| ledger.count(*call).max(1) as usize).collect();
         let rows = some_rows(random, &counts, self.sizes.rows);
@@ -150,16 +169,46 @@ fn in_force(random: &mut Random, ledger: &Ledger) -> u8 {
     }
 }
 
-/// The calls of a rule on a board of n calls, fewer than the arity where there are no more: different ones, mostly neighbours in a circle, so that strikes come
-/// around.
-fn some_calls(random: &mut Random, arity: usize, n: usize) -> Vec<u8> {
-    let arity = arity.min(n.max(1));
-    let first = random.below(n.max(1));
-    if random.percent(75) {
-        let step = if random.percent(60) { 1 } else { n.max(1) - 1 };
-        return (0..arity).map(|k| ((first + k * step) % n.max(1)) as u8).collect();
+/// A call to cancel: mostly one that can be, and often one of the draft or of the rules in force.
+fn some_call(random: &mut Random, ledger: &Ledger) -> u8 {
+    let of_draft = ledger.draft.iter().flat_map(|(_, rule)| rule.calls.iter().copied());
+    let of_rules = ledger.rules.values().flat_map(|rule| rule.calls.iter().copied());
+    let left = |call: &u8| !ledger.is_cancelled(*call);
+    let calls: Vec<u8> = match random.below(10) {
+        0..3 => of_draft.filter(left).collect(),
+        3..7 => of_rules.filter(left).collect(),
+        7 => ledger.cancelled.iter().copied().collect(),
+        8 => vec![],
+        _ => (0..ledger.counts.len() as u8).filter(left).collect(),
+    };
+    if calls.is_empty() {
+        random.near(ledger.counts.len())
+    } else {
+        *random.choose(&calls)
     }
-    let mut calls: Vec<u8> = (0..n.max(1) as u8).collect();
+}
+
+/// The calls that a new rule is to be on some of: mostly those that are not cancelled. On no board it is call 0.
+fn calls_for_rule(random: &mut Random, ledger: &Ledger) -> Vec<u8> {
+    let all = 0..ledger.counts.len().max(1) as u8;
+    let left: Vec<u8> = all.clone().filter(|call| !ledger.is_cancelled(*call)).collect();
+    if left.is_empty() || random.percent(8) {
+        all.collect()
+    } else {
+        left
+    }
+}
+
+/// The calls of a rule among these, fewer than the arity where there are no more: different ones, mostly neighbours in a circle, so that strikes come around.
+fn some_calls(random: &mut Random, arity: usize, among: &[u8]) -> Vec<u8> {
+    let n = among.len();
+    let arity = arity.min(n);
+    let first = random.below(n);
+    if random.percent(75) {
+        let step = if random.percent(60) { 1 } else { n - 1 };
+        return (0..arity).map(|k| among[(first + k * step) % n]).collect();
+    }
+    let mut calls = among.to_vec();
     (0..arity).map(|_| calls.swap_remove(random.below(calls.len()))).collect()
 }
 
@@ -203,9 +252,10 @@ fn equal_row(random: &mut Random, counts: &[usize]) -> Vec<u8> {
     }
 }
 
-/// A gap rule on two calls of the board, with a gap below the larger of their counts. On a board of one call it is on that one twice.
+/// A gap rule on two calls of the board, with a gap below the larger of their counts. Where there is but one call to choose it is on that one twice.
 pub fn gap_rule_within(random: &mut Random, ledger: &Ledger, number: u8) -> Vec<u8> {
-    let calls = some_calls(random, 2, ledger.counts.len());
+    let among = calls_for_rule(random, ledger);
+    let calls = some_calls(random, 2, &among);
     let (first, second) = (calls[0], calls[calls.len() - 1]);
     let slots = ledger.count(first).max(ledger.count(second)).max(1) as usize;
     let form = random.between((1, 3)) as u8;
@@ -278,6 +328,7 @@ pub fn any_command(random: &mut Random) -> Vec<u8> {
         ROW if random.percent(70) => bytes[1 + columns..].fill(255),
         GAP if random.percent(70) => bytes[1] = random.between((1, 3)) as u8,
         MARK | BACK if random.percent(70) => bytes[1] = some_name(random),
+        CANCEL if random.percent(70) => bytes[1] = random.near(32),
         _ => (),
     }
     bytes

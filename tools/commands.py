@@ -15,7 +15,8 @@ Without FILE, or where it is -, the input is standard input. The lines:
     same 1 0 2         a draft of rule 1: the slots of calls 0 and 2 are the same
     mark 0             the board is kept under the name 0; the names are 0 and 1
     back 0             the board that is kept under the name 0 is brought back, without a draft, and stays kept
-    bytes 9 255 0      these bytes as they stand, whatever they are
+    cancel 3           call 3 is cancelled, until a new board or a back to a mark where it was not
+    bytes 10 255 0     these bytes as they stand, whatever they are
 
 A draft by before, apart or same has every pair of slots that fits as a row, and more rows may follow. Left out, counts are 0, calls
 and slots 255, and the gap of same is 0. What follows # is a comment. Numbers are 0 to 255: whether a command makes sense is for the
@@ -39,6 +40,7 @@ WORDS = {
     "same": ([6, 3], 3, 4, 0),
     "mark": ([7], 1, 1, 0),
     "back": ([8], 1, 1, 0),
+    "cancel": ([9], 1, 1, 0),
 }
 # how many bytes a command of each kind has
 LENGTHS = {start[0]: len(start) + most for start, _, most, _ in WORDS.values()}

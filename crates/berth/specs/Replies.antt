@@ -27,7 +27,7 @@ use Rattle.model.specs.Questions.{rowChecks, RowBytesPromise}
 use Rattle.board.specs.Replay.{ReplayPromise}
 use Rattle.layout.specs.Memory.{State, Whole}
 use Rattle.model.specs.Refusals.{firstOf}
-use Rattle.layout.specs.Places.{rowStart}
+use Rattle.layout.specs.Places.{rowStart, cancelledByte}
 
 -- a reply hands on an answer that keeps its promise, and nothing else
 pub record Replied {A B : Type 0} (Promised : A → Type 0) (replyTo : A → B) (reply : B) : Type 0 where
@@ -56,10 +56,11 @@ abbrev pub slotsReply : OpenSlots → SlotsReply
 slotsReply (slots.Mask mask ones) = record { mask = mask; ones = ones; number = 0 }
 slotsReply (slots.Refused n) = record { mask = 0; ones = 0; number = n }
 
--- the cause of a struck slot; 255 of an open one
+-- the cause of a struck slot; 255 of an open one, and 253 of one of a cancelled call, as in its byte
 abbrev pub stateReply : SlotState → StateReply
 stateReply state.Open = record { number = 0; cause = 255 }
 stateReply (state.Struck cause) = record { number = 0; cause = cause }
+stateReply state.Cancelled = record { number = 0; cause = cancelledByte }
 stateReply (state.Refused n) = record { number = n; cause = 254 }
 
 -- the killer's column of a dead row; 255 of one that is alive

@@ -36,7 +36,7 @@ pub struct SlotsReply {
     pub number: u8,
 }
 
-// The cause of a struck slot; 255 of an open one, 254 where refused.
+// The cause of a struck slot; 255 of an open one, 253 of one of a cancelled call, 254 where refused.
 #[repr(C)]
 pub struct StateReply {
     pub number: u8,
@@ -119,6 +119,10 @@ pub fn of_slot_state(answer: SlotState) -> StateReply
             cause: 255,
         },
         SlotState::Struck(cause) => StateReply { number: 0, cause },
+        SlotState::Cancelled => StateReply {
+            number: 0,
+            cause: 253,
+        },
         SlotState::Refused(number) => StateReply { number, cause: 254 },
     }
 }

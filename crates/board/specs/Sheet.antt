@@ -6,7 +6,6 @@ use Rattle.model.specs.declared.command.Decoded.{Decoded}
 use lib.ListN.{length}
 use Rattle.model.specs.Board.{Board}
 use Rattle.model.specs.Tests.{upFrom}
-use Rattle.model.specs.Filter.{openOf}
 use Rattle.model.specs.Ledger.{Ledger, fresh, obey}
 use Rattle.model.specs.Sheet.{callLines, totalLine, endLine, fileRefusal, readLine, readsFrom, sheetOf}
 
@@ -26,4 +25,4 @@ ledgerFrom L (d ∷ ds) = ledgerFrom (obey (fileRefusal L (d .read) (d .counts))
 -- THE SHEET OF AN INPUT whose commands leave the board B: the lines of the commands, those of B's calls, the total, and the last line
 pub record Prints (input : List ℕ) (B : Board) (total : ℕ) : Type 0 where
   pub sheet : sheetOf input
-      ≡ commandLines fresh (readsFrom (length input) input 0) ++ callLines (openOf B) (upFrom 0 (length (B .counts))) ++ totalLine total ++ endLine
+      ≡ commandLines fresh (readsFrom (length input) input 0) ++ callLines B (upFrom 0 (length (B .counts))) ++ totalLine total ++ endLine

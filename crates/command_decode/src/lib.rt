@@ -17,7 +17,7 @@ ghost use Rattle.model.specs.Commands.{isKind, bodySize, headAt, rowAt, gapAt, 
 fn is_kind(k: u8) -> bool
     ensures { λ r. ⌜ r ≡ isKind k ⌝ }
 {
-    1 <= k && k <= 8
+    1 <= k && k <= 9
 }
 
 fn body_length(k: u8) -> usize
@@ -31,6 +31,7 @@ fn body_length(k: u8) -> usize
         6 => 5,
         7 => 1,
         8 => 1,
+        9 => 1,
         _ => 0,
     }
 }
@@ -75,7 +76,7 @@ fn gap_at(s: &[u8], b: usize) -> GapRule
     }
 }
 
-// The command of kind k, 1 to 8.
+// The command of kind k, 1 to 9.
 fn command_at(s: &[u8], k: u8, b: usize) -> Command
     requires { ⌜ isKind k ≡ true ⌝ }
     requires { ⌜ b + bodySize k ≤ length (now s) ⌝ }
@@ -89,7 +90,8 @@ fn command_at(s: &[u8], k: u8, b: usize) -> Command
         5 => Command::Retract(s[b]),
         6 => Command::Gap(gap_at(s, b)),
         7 => Command::Keep(s[b]),
-        _ => Command::Back(s[b]),
+        8 => Command::Back(s[b]),
+        _ => Command::Cancel(s[b]),
     }
 }
 

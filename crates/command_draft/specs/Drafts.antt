@@ -20,10 +20,10 @@ use Rattle.command_draft.specs.declared.redraft.Redrafted.{Redrafted}
 use Rattle.layout.specs.Value.{emptyRule, withDraft}
 use Rattle.layout.specs.Memory.{stateOf}
 
--- A KIND THAT ONLY WRITES THE DRAFT keeps its promise over any buffers, and they stay as they are
-abbrev pub DraftPromise : Value → Command → Outcome → Type 0
-DraftPromise value c r =
-    (rows killers slots ns : List ℕ) → KindPromise (stateOf value rows killers slots) c ns (r .answer) (stateOf (r .value) rows killers slots)
+-- A KIND THAT ONLY WRITES THE DRAFT keeps its promise with these slot bytes, which it may read, over any other buffers; and all stay as they are
+abbrev pub DraftPromise : Value → List ℕ → Command → Outcome → Type 0
+DraftPromise value slots c r =
+    (rows killers ns : List ℕ) → KindPromise (stateOf value rows killers slots) c ns (r .answer) (stateOf (r .value) rows killers slots)
 
 -- WHAT IS GIVEN BACK OF A DRAFT: the number of the first refusal that holds, or 0; and the new draft, or the old one where one holds
 pub record Redraws (checks : List (Bool × ℕ)) (old new : Draft) (r : Redrafted) : Type 0 where
@@ -39,8 +39,8 @@ abbrev pub draftOf : Head → Draft
 draftOf h = record { number = h .number; rule = record { arity = h .arity; scope = scopeOf h; length = 0; rows = emptyRule .rows } }
 
 -- what kind 2 promises
-abbrev pub StartsDraft : Value → Head → Outcome → Type 0
-StartsDraft value h r = DraftPromise value (kind.Head h) r
+abbrev pub StartsDraft : Value → List ℕ → Head → Outcome → Type 0
+StartsDraft value slots h r = DraftPromise value slots (kind.Head h) r
 
 -- row bytes with a row's four slots from the place at on
 abbrev pub withSlots : List ℕ → ℕ → Row → List ℕ
@@ -54,6 +54,6 @@ longerRule r w =
 abbrev pub withRow : Draft → Row → Draft
 withRow d w = record { number = d .number; rule = longerRule (d .rule) w }
 
--- what kind 3 promises
+-- what kind 3 promises, over any slot bytes
 abbrev pub AddsRow : Value → Row → Outcome → Type 0
-AddsRow value w r = DraftPromise value (kind.Row w) r
+AddsRow value w r = (slots : List ℕ) → DraftPromise value slots (kind.Row w) r

@@ -13,7 +13,7 @@ use Rattle.model.specs.Commands.{scopeOf, slotsOf}
 use Rattle.model.specs.Ledger.{badSpare?, badNumber?}
 use Rattle.model.specs.Representation.{noCalls?}
 use Rattle.model.specs.Numbers as refused
-use Rattle.layout.specs.Places.{ownPlace}
+use Rattle.layout.specs.Places.{ownPlace, cancelled?}
 
 -- 8: a rule cannot have so many columns
 abbrev pub badArity? : ℕ → Bool
@@ -25,6 +25,10 @@ offBoard? counts x = leb 32 x || eqb (getD counts x 0) 0
 
 abbrev pub callOffBoard? : List ℕ → List ℕ → ℕ → Bool
 callOffBoard? counts scope n = some? n λ k. offBoard? counts (getD scope k 255)
+
+-- 29: one of the first n calls is cancelled, by the slot bytes
+abbrev pub callCancelled? : List ℕ → List ℕ → ℕ → Bool
+callCancelled? slots scope n = some? n λ k. cancelled? slots (getD scope k 255)
 
 -- 10: one of the first n calls is one of those before it
 abbrev pub callBefore? : List ℕ → ℕ → Bool
@@ -41,12 +45,13 @@ abbrev pub cappedRows : ℕ → ℕ
 cappedRows length = min length 64
 
 -- KIND 2, in the order of SCOPE 4.3
-abbrev pub headChecks : List ℕ → Head → List (Bool × ℕ)
-headChecks counts h =
+abbrev pub headChecks : List ℕ → List ℕ → Head → List (Bool × ℕ)
+headChecks counts slots h =
     (noCalls? counts, refused.noBoard)
     ∷ (badNumber? (h .number), refused.badNumber)
     ∷ (badArity? (h .arity), refused.badArity)
     ∷ (callOffBoard? counts (scopeOf h) (cappedColumns (h .arity)), refused.callOffBoard)
+    ∷ (callCancelled? slots (scopeOf h) (cappedColumns (h .arity)), refused.cancelledCall)
     ∷ (callTwice? (scopeOf h) (cappedColumns (h .arity)), refused.callTwice)
     ∷ (badSpare? (cappedColumns (h .arity)) (scopeOf h), refused.spareField)
     ∷ []

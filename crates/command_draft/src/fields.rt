@@ -1,9 +1,10 @@
 // The checks of fields that kinds 2 and 3 make, and kind 6 one of them: each looks at one condition of SCOPE 4.1, over the bytes, whatever they hold.
+use layout::places::is_cancelled;
 ghost use mathlib.Core.Path.{_≡_};
 ghost use Prim.Native.Nat.{_≤_, _<_};
 ghost use lib.ListN.{length};
 ghost use Rattle.model.specs.Ledger.{badSpare?};
-ghost use Rattle.command_draft.specs.Fields.{offBoard?, callOffBoard?, callBefore?, callTwice?, badArity?, slotOff?, slotOffCall?, sameRow?, rowInDraft?};
+ghost use Rattle.command_draft.specs.Fields.{offBoard?, callOffBoard?, callCancelled?, callBefore?, callTwice?, badArity?, slotOff?, slotOffCall?, sameRow?, rowInDraft?};
 
 // Whether call x is not on the board.
 pub fn off_board(counts: &[u8; 32], x: u8) -> bool
@@ -21,6 +22,22 @@ pub fn call_off_board(counts: &[u8; 32], scope: &[u8; 4], n: usize) -> bool
     let mut k = 0;
     while k < n {
         if off_board(counts, scope[k]) {
+            return true;
+        }
+        k += 1;
+    }
+    false
+}
+
+// Refusal 29: one of n calls is cancelled.
+pub fn call_cancelled(slots: &[u8], scope: &[u8; 4], n: usize) -> bool
+    requires { ⌜ length (now scope) ≡ 4 ⌝ }
+    requires { ⌜ n ≤ 4 ⌝ }
+    ensures { λ r. ⌜ r ≡ callCancelled? (now (slots .entry)) (now (scope .entry)) n ⌝ }
+{
+    let mut k = 0;
+    while k < n {
+        if is_cancelled(slots, scope[k]) {
             return true;
         }
         k += 1;

@@ -13,10 +13,10 @@ ghost use Rattle.command_gap.specs.Checks.{RedrawsGap};
 ghost use Rattle.model.specs.declared.command.Command.the-variants as kind;
 
 // The draft of the rule in the place of the one given, which stays where the rule is refused.
-pub fn redraft(counts: &[u8; 32], draft: Draft, f: GapRule) -> Redrafted
-    ensures { λ r. ⌜ RedrawsGap (now (counts .entry)) f draft r ⌝ }
+pub fn redraft(counts: &[u8; 32], slots: &[u8], draft: Draft, f: GapRule) -> Redrafted
+    ensures { λ r. ⌜ RedrawsGap (now (counts .entry)) (now (slots .entry)) f draft r ⌝ }
 {
-    let number = check_fields(counts, f);
+    let number = check_fields(counts, slots, f);
     if number != 0 {
         return Redrafted { number, draft };
     }
@@ -31,12 +31,12 @@ pub fn redraft(counts: &[u8; 32], draft: Draft, f: GapRule) -> Redrafted
     Redrafted { number, draft: new }
 }
 
-pub fn draft_gap(value: Value, f: GapRule) -> Outcome
-    ensures { λ r. ⌜ DraftPromise value (kind.Gap f) r ⌝ }
+pub fn draft_gap(value: Value, f: GapRule, slots: &[u8]) -> Outcome
+    ensures { λ r. ⌜ DraftPromise value (now (slots .entry)) (kind.Gap f) r ⌝ }
 {
     let heads = value.heads;
     let counts = heads.counts;
     let draft = value.draft;
-    let next = redraft(&counts, draft, f);
+    let next = redraft(&counts, slots, draft, f);
     outcome_of(value, next)
 }

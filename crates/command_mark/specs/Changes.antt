@@ -1,4 +1,5 @@
--- S AND R BETWEEN TWO BOARDS' SLOT BYTES (SCOPE 3.7).
+-- S AND R BETWEEN TWO BOARDS' SLOT BYTES (SCOPE 3.7). The two may have cancelled other calls: a cancelled call's byte is neither an open nor a struck slot's, so its slots
+-- are in neither.
 use mathlib.Core.Path.{_≡_}
 use mathlib.Core.List.{List}
 use Prim.Native.Nat.{ℕ, _+_, _≤_}

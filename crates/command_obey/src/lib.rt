@@ -57,7 +57,7 @@ pub fn obey(
 {
     match command {
         Command::Board => make_anew(value, names, counts, rows, killers, slots),
-        Command::Head(head) => command_draft::head::start_draft(value, head),
+        Command::Head(head) => command_draft::head::start_draft(value, head, slots),
         Command::Row(row) => command_draft::row::add_row(value, row),
         Command::Post => command_rules::post::post(value, rows, killers, slots),
         Command::Retract(number) => command_rules::retract::retract(
@@ -67,12 +67,15 @@ pub fn obey(
             killers,
             slots,
         ),
-        Command::Gap(f) => command_gap::gap::draft_gap(value, f),
+        Command::Gap(f) => command_gap::gap::draft_gap(value, f, slots),
         Command::Keep(name) => {
             command_mark::keep::keep_board(value, names, name, rows, killers, slots, marks)
         }
         Command::Back(name) => {
             command_mark::back::back_board(value, names, name, rows, killers, slots, marks)
+        }
+        Command::Cancel(call) => {
+            command_cancel::cancel::cancel_call(value, call, rows, killers, slots)
         }
     }
 }

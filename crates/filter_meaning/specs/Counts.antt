@@ -1,12 +1,24 @@
--- How many slots were struck and how many reopened: the counts of the report, which go by a slot's call and number, are those of the tables, which go along the
--- bytes. And how open slots become more or fewer: by those that reopened, less those that were struck.
+-- How many slots a relaxation reopens: the lists of slot bytes before, after the reopening, and after propagation, and the visited slots.
 use mathlib.Core.Path.{_≡_}
+use mathlib.Core.List.{List}
 use mathlib.Core.Logic.{_⊎_}
-use Prim.Native.Nat.{ℕ, _<_}
+use mathlib.Core.Bool.{Bool}
+use Prim.Native.Nat.{ℕ, _≤_, _<_}
+use lib.ListN.{length, getD}
+use Rattle.tables.specs.Lost.{OnlyLost}
+use Rattle.filter_propagate.specs.Strikes.{isOpen, isStruck}
+use Rattle.filter_propagate.specs.Queue.{IsFlagged}
 
--- A SLOT'S BYTE BEFORE AND AFTER: open or struck at both times, or off the board at both
-abbrev pub OpenOrStruck : ℕ → Type 0
-OpenOrStruck x = (x ≡ 255) ⊎ (x < 64)
+-- a byte that is neither open nor struck: of a cancelled call, or past a call's slots
+abbrev pub Neither : ℕ → Type 0
+Neither x = (253 ≤ x) × (x ≤ 254)
 
-abbrev pub SameSlot : ℕ → ℕ → Type 0
-SameSlot x y = (OpenOrStruck x × OpenOrStruck y) ⊎ ((x ≡ 254) × (y ≡ 254))
+-- A VISITED SLOT was struck and is open, any other stays as it was or is in no set any more; propagation then strikes some; and none that was open before is struck
+pub record Reopening (slots left after : List ℕ) (visited : List Bool) : Type 0 where
+  pub left-size : length left ≡ length slots
+  pub visited-size : length visited ≡ length slots
+  pub was-struck : (j : ℕ) → IsFlagged visited j → getD slots j 0 < 64
+  pub is-open : (j : ℕ) → IsFlagged visited j → getD left j 0 ≡ 255
+  pub kept : (j : ℕ) → (IsFlagged visited j → ⊥) → (getD left j 0 ≡ getD slots j 0) ⊎ Neither (getD left j 0)
+  pub again : OnlyLost 0 isOpen isStruck left after
+  pub none-struck : (j : ℕ) → getD slots j 0 ≡ 255 → getD after j 0 < 64 → ⊥

@@ -2,4 +2,5 @@
 pub mod Rules
 pub mod Working
 pub mod Settled
+pub mod Relaxing
 pub mod Counts

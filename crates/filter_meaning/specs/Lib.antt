@@ -1,4 +1,5 @@
 pub mod Rules
 pub mod Working
+pub mod Relaxing
 pub mod Counts
 pub mod Laws

@@ -5,7 +5,7 @@ use Prim.Native.Nat.{ℕ, _≤_, _<_}
 use lib.ListN.{length}
 use Rattle.model.specs.Board.{Board, OnBoard}
 use Rattle.model.specs.Records.{Sound}
-use Rattle.model.specs.Representation.{ruleAt}
+use Rattle.model.specs.Representation.{ruleAt, offByte}
 use Rattle.filter_propagate.specs.Rules.{RuleBytes, Progress}
 use Rattle.filter_propagate.specs.Stable.{Calm}
 use Rattle.filter_meaning.specs.Rules.{RulesOf}
@@ -17,6 +17,6 @@ pub record Working (B : Board) (R : RuleBytes) (x : Progress) : Type 0 where
   pub sizes : Sizes (R .rows) (x .killers) (x .slots)
   pub rules : RulesOf B R
   pub sound : Sound B (causeOf (x .slots)) (killerOf (x .killers))
-  pub off : (c s : ℕ) → c < 32 → s < 32 → (OnBoard B c s → ⊥) → causeOf (x .slots) c s ≡ 254
+  pub off : (c s : ℕ) → c < 32 → s < 32 → (OnBoard B c s → ⊥) → causeOf (x .slots) c s ≡ offByte B c s
   pub spare : (p w : ℕ) → p < 64 → w < 64 → length (ruleAt B p .rows) ≤ w → killerOf (x .killers) p w ≡ 255
   pub calm : Calm R x

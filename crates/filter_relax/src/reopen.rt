@@ -1,6 +1,6 @@
 // Reopening: the visited slots get the byte b. Only the calls with one are looked at.
 ghost use mathlib.Core.Path.{_≡_};
-ghost use Prim.Native.Nat.{_<_};
+ghost use Prim.Native.Nat.{_-_, _<_};
 ghost use lib.ListN.{length};
 ghost use Rattle.tables.specs.Assign.{Assigned};
 ghost use Rattle.tables.specs.Count.{count};
@@ -46,4 +46,11 @@ pub fn reopen_calls(slots: &mut [u8], visited: &[u32; 32], calls: u32, b: u8) ->
         left = left & (left - 1);
     }
     total
+}
+
+// a less b, or 0: how many of a reopened slots stay so where b are struck again. On altered memory more may be struck than reopened.
+pub fn difference(a: usize, b: usize) -> usize
+    ensures { λ r. ⌜ r ≡ a - b ⌝ }
+{
+    if b < a { a - b } else { 0 }
 }

@@ -1,5 +1,3 @@
 -- The theorems over the definitions.
 pub mod Done
-pub mod Count
-pub mod Touched
 pub mod Stored

@@ -1,5 +1,3 @@
 pub mod Done
-pub mod Count
-pub mod Touched
 pub mod Stored
 pub mod Laws

@@ -2,9 +2,10 @@
 // propagation strikes again what has no support without the rule either.
 // Proved: it is safe and ends on any contents of the buffers, and on a stored board it leaves the board stored without the rule (specs/Stored.antt).
 // Assumed: nothing.
+use filter_relax::reopen::difference;
 use layout::value::RuleData;
 ghost use mathlib.Core.Path.{_≡_};
-ghost use Prim.Native.Nat.{_*_, _-_, _<_};
+ghost use Prim.Native.Nat.{_*_, _<_};
 ghost use lib.ListN.{length};
 ghost use Rattle.tables.specs.Sweep.{Swept};
 ghost use Rattle.tables.specs.Masks.{flagsOf};
@@ -129,13 +130,6 @@ pub fn retract_struck(
         reopened: difference(relaxed.touched, again),
         touched: relaxed.touched,
     }
-}
-
-// a less b, or 0: on altered memory more may be struck than reopened.
-pub fn difference(a: usize, b: usize) -> usize
-    ensures { λ r. ⌜ r ≡ a - b ⌝ }
-{
-    if b < a { a - b } else { 0 }
 }
 
 // Rule p leaves force. A rule that struck nothing is only cleared.

@@ -1,8 +1,10 @@
 -- WHERE BYTES LIE in the value and in the lent buffers. Numbers are taken modulo the sizes, and columns and rows are capped, so that any bytes name a place.
 use mathlib.Core.Path.{_≡_}
+use mathlib.Core.Bool.{Bool, _&&_}
 use mathlib.Core.List.{List}
 use Prim.Native.Nat.{ℕ, _+_, _*_, _%_, _<_, min}
 use lib.ListN.{getD}
+use lib.Dec.{eqb, ltb}
 use Rattle.layout.specs.Sizes.{slotsLength}
 
 -- THE PLACES (SCOPE 2.1 to 2.3): of row w of rule p and its column k, of that row's killer, of slot s of call c; of column k of rule p among the heads; and of column k of
@@ -60,3 +62,10 @@ rowsOf lengths p = min (getD lengths p 0) 64
 -- the byte of slot s of call c (SCOPE 2.3)
 abbrev pub causeOf : List ℕ → ℕ → ℕ → ℕ
 causeOf slots c s = getD slots (slotPlace c s) 0
+
+-- THE BYTE OF EACH SLOT OF A CANCELLED CALL (SCOPE 2.12). The byte of its first slot says that a call is cancelled: every call of a board has a slot
+abbrev pub cancelledByte : ℕ
+cancelledByte = 253
+
+abbrev pub cancelled? : List ℕ → ℕ → Bool
+cancelled? slots c = ltb c 32 && eqb (causeOf slots c 0) cancelledByte

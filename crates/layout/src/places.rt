@@ -2,7 +2,7 @@
 ghost use mathlib.Core.Path.{_≡_};
 ghost use Prim.Native.Nat.{_+_, _%_, min};
 ghost use lib.ListN.{getD};
-ghost use Rattle.layout.specs.Places.{cellOf, AtRowCell};
+ghost use Rattle.layout.specs.Places.{cellOf, AtRowCell, cancelled?};
 ghost use Rattle.layout.specs.Bounds.{InRow};
 
 // The slot byte of call c and slot s.
@@ -40,4 +40,14 @@ pub fn byte_at(bytes: &[u8], at: usize) -> u8
     ensures { λ r. ⌜ r ≡ getD (now (bytes .entry)) at 0 ⌝ }
 {
     if at < bytes.len() { bytes[at] } else { 0 }
+}
+
+// The byte of each slot of a cancelled call.
+pub const CANCELLED: u8 = 253;
+
+// Whether the call is cancelled: the byte of its first slot says so, and every call has a slot.
+pub fn is_cancelled(slots: &[u8], call: u8) -> bool
+    ensures { λ r. ⌜ r ≡ cancelled? (now (slots .entry)) call ⌝ }
+{
+    call < 32 && byte_at(slots, 32 * (call as usize)) == CANCELLED
 }

@@ -30,6 +30,7 @@ ApartKind name (kind.Retract n) = Unit {0}
 ApartKind name (kind.Gap f) = Unit {0}
 ApartKind name (kind.Keep other) = name ≡ other → ⊥
 ApartKind name (kind.Back other) = Unit {0}
+ApartKind name (kind.Cancel c) = Unit {0}
 
 -- what is no command at all is apart; and so are the commands of a list
 abbrev pub ApartRead : ℕ → Read → Type 0

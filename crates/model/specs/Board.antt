@@ -1,12 +1,13 @@
 -- CALLS, SLOTS, RULES (SCOPE 1): what a board is and what its rules ask, with no byte of the lent memory in it.
 use mathlib.Core.Path.{_≡_}
-use mathlib.Core.Bool.{Bool, true, _&&_}
+use mathlib.Core.Bool.{Bool, not, _&&_, cond}
 use mathlib.Core.List.{List, []}
 use mathlib.Core.Option.{Option, none, some}
 use mathlib.Core.Logic.{_≢_}
 use Prim.Native.Nat.{ℕ, _<_, _≤_}
 use lib.ListN.{length, getD}
 use lib.Dec.{T, ltb}
+use Rattle.model.specs.Tests.{has}
 
 -- RULE (SCOPE 1.2): the call of each column, and the rows, each a slot for each column. Its number is its place among the board's rules, its arity the number
 -- of its calls; `GoodRule`, below, has the limits
@@ -14,10 +15,11 @@ pub record Rule : Type 0 where
   pub scope : List ℕ
   pub rows : List (List ℕ)
 
--- BOARD (SCOPE 1.1): the slot count of each call, and the rule in force under each number
+-- BOARD (SCOPE 1.1): the slot count of each call, the rule in force under each number, and the numbers of the cancelled calls (1.18)
 pub record Board : Type 0 where
   pub counts : List ℕ
   pub rules : List (Option Rule)
+  pub cancelled : List ℕ
 
 -- the call of column k, and the slot that row w has there; 255 past the last, as in the lent memory
 abbrev pub callAt : Rule → ℕ → ℕ
@@ -26,23 +28,33 @@ callAt r k = getD (r .scope) k 255
 abbrev pub slotAt : Rule → ℕ → ℕ → ℕ
 slotAt r w k = getD (getD (r .rows) w []) k 255
 
--- slot s of call c is on the board
+-- call c is cancelled (SCOPE 1.18, order 6); one that is not takes part on the board
+abbrev pub cancelledOn? : Board → ℕ → Bool
+cancelledOn? B c = has (B .cancelled) c
+
+abbrev pub Cancelled : Board → ℕ → Type 0
+Cancelled B c = T (cancelledOn? B c)
+
+abbrev pub live? : Board → ℕ → Bool
+live? B c = not (cancelledOn? B c)
+
+abbrev pub Live : Board → ℕ → Type 0
+Live B c = T (live? B c)
+
+-- the slots that call c has in sets, plans and records: as many as its count says, and none where it is cancelled
+abbrev pub slotsOn : Board → ℕ → ℕ
+slotsOn B c = cond (cancelledOn? B c) 0 (getD (B .counts) c 0)
+
+-- slot s of call c is on the board: it is one of the call's, and the call is not cancelled (Laws.Theory, `on-board`)
 abbrev pub OnBoard : Board → ℕ → ℕ → Type 0
-OnBoard B c s = s < getD (B .counts) c 0
+OnBoard B c s = s < slotsOn B c
 
 -- rule r is in force under the number p
 abbrev pub InForce : Board → ℕ → Rule → Type 0
 InForce B p r = getD (B .rules) p none ≡ some r
 
--- CALL c TAKES PART on the board: every call does. (Order 6 will leave cancelled calls out here.)
-unfoldable pub live? : Board → ℕ → Bool
-live? B c = true
-
-abbrev pub Live : Board → ℕ → Type 0
-Live B c = T (live? B c)
-
--- COLUMN k OF RULE r IS ACTIVE on the board: it is a column of the rule, and its call takes part. All that a rule asks of its rows' slots goes by this one
--- definition
+-- COLUMN k OF RULE r IS ACTIVE on the board, or counts, as SCOPE 1.19 says: it is a column of the rule, and its call is not cancelled. All that a rule asks of its
+-- rows' slots goes by this one definition
 unfoldable pub active? : Board → Rule → ℕ → Bool
 active? B r k = ltb k (length (r .scope)) && live? B (callAt r k)
 
@@ -101,10 +113,16 @@ Alive B r w = Within B (Viable B) r w
 abbrev pub Dead : Board → Rule → ℕ → Type 0
 Dead B r w = Alive B r w → ⊥
 
--- FULL PLAN (SCOPE 1.15), a term of the scope: each call gets a slot of its own, and every rule in force has a row that agrees with the plan in all columns
+-- no slot's number: what a plan has for a call that it gives no slot
+abbrev pub noSlot : ℕ
+noSlot = 255
+
+-- FULL PLAN (SCOPE 1.15, 1.22), a term of the scope: each call that is not cancelled gets a slot of its own and a cancelled one none, and every rule in force with an
+-- active column j has a row that agrees with the plan in all active columns
 pub record FullPlan (B : Board) (plan : ℕ → ℕ) : Type 0 where
-  pub gives : (c : ℕ) → c < length (B .counts) → OnBoard B c (plan c)
-  pub keeps : (p : ℕ) (r : Rule) → InForce B p r
+  pub gives : (c : ℕ) → c < length (B .counts) → Live B c → OnBoard B c (plan c)
+  pub absent : (c : ℕ) → Cancelled B c → plan c ≡ noSlot
+  pub keeps : (p : ℕ) (r : Rule) → InForce B p r → (j : ℕ) → Active B r j
       → (w : ℕ) × (w < length (r .rows)) × ((k : ℕ) → Active B r k → slotAt r w k ≡ plan (callAt r k))
 
 -- SAME RULES (SCOPE 1.16): the same calls in the same columns, and each row of either rule is a row of the other
@@ -123,9 +141,11 @@ pub record SameIn (B : Board) (r : Rule) : Type 0 where
   pub force : InForce B number rule
   pub same : Same r rule
 
--- AT LEAST THE SAME RULES (SCOPE 1.17), on the same calls and counts: each rule in force on B is the same as one in force on B′
+-- AT LEAST THE SAME RULES (SCOPE 1.17), on the same calls and counts: each rule in force on B is the same as one in force on B′, and each call cancelled on B′ is
+-- cancelled on B (6.14)
 pub record AtLeast (B B′ : Board) : Type 0 where
   pub counts : B .counts ≡ B′ .counts
+  pub cancelled : (c : ℕ) → Cancelled B′ c → Cancelled B c
   pub rules : (p : ℕ) (r : Rule) → InForce B p r → SameIn B′ r
 
 -- THE SHAPE that every board keeps (SCOPE 1.1, 1.2). A rule has 1 to 4 different calls of the board, and up to 64 different rows with a slot of each call
@@ -139,9 +159,10 @@ pub record GoodRule (counts : List ℕ) (r : Rule) : Type 0 where
   pub slots : (w k : ℕ) → w < length (r .rows) → k < length (r .scope) → slotAt r w k < getD counts (callAt r k) 0
   pub rows : (v w : ℕ) → v < w → w < length (r .rows) → getD (r .rows) v [] ≢ getD (r .rows) w []
 
--- up to 32 calls, a fresh board having none, with 1 to 32 slots each; rules are numbered 0 to 63
+-- up to 32 calls, a fresh board having none, with 1 to 32 slots each; rules are numbered 0 to 63; a cancelled call is one of the calls
 pub record Shape (B : Board) : Type 0 where
   pub calls : length (B .counts) ≤ 32
   pub counts : (c : ℕ) → c < length (B .counts) → (0 < getD (B .counts) c 0) × (getD (B .counts) c 0 ≤ 32)
   pub numbers : length (B .rules) ≡ 64
   pub rules : (p : ℕ) (r : Rule) → InForce B p r → GoodRule (B .counts) r
+  pub cancelled : (c : ℕ) → Cancelled B c → c < length (B .counts)

@@ -16,10 +16,10 @@ use Rattle.model.specs.Numbers as refused
 
 -- the kinds that there are, and how many bytes follow the kind's own
 abbrev pub isKind : ℕ → Bool
-isKind k = leb 1 k && leb k 8
+isKind k = leb 1 k && leb k 9
 
 abbrev pub bodySize : ℕ → ℕ
-bodySize k = cond (eqb k 1) 32 (cond (eqb k 2) 6 (cond (eqb k 3) 4 (cond (eqb k 5) 1 (cond (eqb k 6) 5 (cond (eqb k 7) 1 (cond (eqb k 8) 1 0))))))
+bodySize k = cond (eqb k 1) 32 (cond (eqb k 2) 6 (cond (eqb k 3) 4 (cond (eqb k 5) 1 (cond (eqb k 6) 5 (cond (eqb k 7) 1 (cond (eqb k 8) 1 (cond (eqb k 9) 1 0)))))))
 
 -- the bodies of kinds 2, 3 and 6 that begin at b
 abbrev pub headAt : List ℕ → ℕ → Head
@@ -49,7 +49,8 @@ commandAt s k b =
     (cond (eqb k 5) (kind.Retract (getD s b 0))
     (cond (eqb k 6) (kind.Gap (gapAt s b))
     (cond (eqb k 7) (kind.Keep (getD s b 0))
-    (kind.Back (getD s b 0))))))))
+    (cond (eqb k 8) (kind.Back (getD s b 0))
+    (kind.Cancel (getD s b 0)))))))))
 
 abbrev pub kindOf : Command → ℕ
 kindOf kind.Board = 1
@@ -60,6 +61,7 @@ kindOf (kind.Retract n) = 5
 kindOf (kind.Gap f) = 6
 kindOf (kind.Keep n) = 7
 kindOf (kind.Back n) = 8
+kindOf (kind.Cancel c) = 9
 
 -- the 32 slot counts of a kind 1 whose body begins at b; zeros for every other kind
 abbrev pub countsAt : List ℕ → ℕ → ℕ → List ℕ

@@ -1,11 +1,11 @@
 -- A FILTER FROM SCRATCH, which computes: it finds the open slots of any board. Laws.Filter proves that what it finds is exactly what is viable.
-use mathlib.Core.Bool.{Bool, true, not, _&&_, _||_}
+use mathlib.Core.Bool.{Bool, true, not, _&&_, _||_, cond}
 use mathlib.Core.List.{List, [], _∷_}
 use mathlib.Core.Option.{Option, none, some}
 use Prim.Native.Nat.{ℕ, zero, suc, _+_}
 use lib.ListN.{length, getD}
 use lib.Dec.{eqb}
-use Rattle.model.specs.Board.{Rule, Board, callAt, slotAt, active?}
+use Rattle.model.specs.Board.{Rule, Board, callAt, slotAt, active?, cancelledOn?}
 use Rattle.model.specs.Tests.{some?, every?, upFrom, has, keepOnly}
 
 -- `left` has, for each call, the slots that are left of it
@@ -49,10 +49,13 @@ abbrev pub passes : ℕ → Board → List (List ℕ) → List (List ℕ)
 passes zero B left = left
 passes (suc n) B left = passes n B (pass B left)
 
--- all slots of the board, and how many they are
-abbrev pub allSlots : List ℕ → List (List ℕ)
-allSlots [] = []
-allSlots (n ∷ ns) = upFrom 0 n ∷ allSlots ns
+-- all slots of the board, none of them of a cancelled call: those from call c on, whose count begins the list, and all; and how many they are
+abbrev pub slotsFrom : Board → ℕ → List ℕ → List (List ℕ)
+slotsFrom B c [] = []
+slotsFrom B c (n ∷ ns) = upFrom 0 (cond (cancelledOn? B c) 0 n) ∷ slotsFrom B (suc c) ns
+
+abbrev pub allSlots : Board → List (List ℕ)
+allSlots B = slotsFrom B 0 (B .counts)
 
 abbrev pub size : List (List ℕ) → ℕ
 size [] = 0
@@ -60,4 +63,4 @@ size (xs ∷ rest) = length xs + size rest
 
 -- THE OPEN SLOTS of each call: as many passes as there are slots are enough
 abbrev pub openOf : Board → List (List ℕ)
-openOf B = passes (size (allSlots (B .counts))) B (allSlots (B .counts))
+openOf B = passes (size (allSlots B)) B (allSlots B)

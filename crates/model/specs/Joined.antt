@@ -22,4 +22,4 @@ offCall B c (none ∷ os) = none ∷ offCall B c os
 offCall B c (some r ∷ os) = unless (inScope? B r c) (some r) ∷ offCall B c os
 
 abbrev pub withoutCall : Board → ℕ → Board
-withoutCall B c = record { counts = set (B .counts) c 0; rules = offCall B c (B .rules) }
+withoutCall B c = record { counts = set (B .counts) c 0; rules = offCall B c (B .rules); cancelled = B .cancelled }

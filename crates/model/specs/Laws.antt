@@ -7,6 +7,7 @@ pub mod Shapes
 pub mod Gaps
 pub mod OneByOne
 pub mod Change
+pub mod Cancelled
 pub mod Joined
 pub mod Fresh
 pub mod Heads

@@ -12,7 +12,7 @@ use Rattle.model.specs.declared.command.Command.{Command}
 use Rattle.model.specs.declared.command.Command.the-variants as kind
 use Rattle.model.specs.declared.command.Read.{Read}
 use Rattle.model.specs.declared.command.Read.the-variants as found
-use Rattle.model.specs.Board.{Rule, Board, callAt, slotAt, GoodRule, Shape}
+use Rattle.model.specs.Board.{Rule, Board, callAt, slotAt, cancelledOn?, GoodRule, Shape}
 use Rattle.model.specs.Tests.{some?, every?, isNone}
 use Rattle.model.specs.Commands.{scopeOf, slotsOf, readAt}
 use Rattle.model.specs.Gaps.{badForm?, badGap?, ruleOfGap}
@@ -25,14 +25,14 @@ pub record NumberedRule : Type 0 where
   pub number : ℕ
   pub rule : Rule
 
--- slot counts and rules by number, which are a board, a draft, and the boards that are kept under the names 0 and 1; `fresh`, below, has none of them
+-- slot counts, rules by number and cancelled calls, which are a board, a draft, and the boards that are kept under the names 0 and 1; `fresh`, below, has none of them
 pub record Ledger : Type 0 where
   pub board : Board
   pub draft : Option NumberedRule
   pub marks : List (Option Board)
 
 abbrev pub bare : List ℕ → Board
-bare counts = record { counts = counts; rules = replicate 64 none }
+bare counts = record { counts = counts; rules = replicate 64 none; cancelled = [] }
 
 abbrev pub noneKept : List (Option Board)
 noneKept = none ∷ none ∷ []
@@ -98,6 +98,7 @@ conditionsFor reserved L (kind.Head h) ns =
     ∷ (reserved (h .number)
     ++ ((ltb (h .arity) 1 || ltb 4 (h .arity), refused.badArity)
     ∷ (some? (h .arity) (λ k. leb (length (L .board .counts)) (getD (scopeOf h) k 255)), refused.callOffBoard)
+    ∷ (some? (h .arity) (λ k. cancelledOn? (L .board) (getD (scopeOf h) k 255)), refused.cancelledCall)
     ∷ (some? (h .arity) (λ k. some? k (λ j. eqb (getD (scopeOf h) j 255) (getD (scopeOf h) k 255))), refused.callTwice)
     ∷ (badSpare? (h .arity) (scopeOf h), refused.spareField)
     ∷ []))
@@ -119,6 +120,7 @@ conditionsFor reserved L (kind.Gap f) ns =
     ∷ (reserved (f .number)
     ++ ((badForm? (f .form), refused.badForm)
     ∷ (leb (length counts) (f .first) || leb (length counts) (f .second), refused.callOffBoard)
+    ∷ (cancelledOn? (L .board) (f .first) || cancelledOn? (L .board) (f .second), refused.cancelledCall)
     ∷ (eqb (f .first) (f .second), refused.callTwice)
     ∷ (badGap? (f .form) (f .gap), refused.badGap)
     ∷ (ltb 64 (length (ruleOfGap counts f .rows)), refused.tooManyPairs)
@@ -126,6 +128,8 @@ conditionsFor reserved L (kind.Gap f) ns =
 conditionsFor reserved L (kind.Keep name) ns = (noBoard? L, refused.noBoard) ∷ (badName? name, refused.badName) ∷ []
 conditionsFor reserved L (kind.Back name) ns =
     (noBoard? L, refused.noBoard) ∷ (badName? name, refused.badName) ∷ (isNone (keptUnder L name), refused.nothingKept) ∷ []
+conditionsFor reserved L (kind.Cancel c) ns =
+    (noBoard? L, refused.noBoard) ∷ (leb (length (L .board .counts)) c, refused.noCall) ∷ (cancelledOn? (L .board) c, refused.alreadyCancelled) ∷ []
 
 -- the board itself reserves no number
 abbrev pub noneReserved : ℕ → List (Bool × ℕ)
@@ -164,11 +168,15 @@ upToZero (suc n ∷ ns) = suc n ∷ upToZero ns
 
 -- the board with r in force under the number p, or with no rule there
 abbrev pub withRule : Board → ℕ → Option Rule → Board
-withRule B p r = record { counts = B .counts; rules = set (B .rules) p r }
+withRule B p r = record { counts = B .counts; rules = set (B .rules) p r; cancelled = B .cancelled }
+
+-- the board with call c cancelled too
+abbrev pub cancelCall : Board → ℕ → Board
+cancelCall B c = record { counts = B .counts; rules = B .rules; cancelled = c ∷ B .cancelled }
 
 -- WHAT AN ACCEPTED COMMAND DOES (SCOPE 6.7): kind 1 leaves nothing but its counts, kind 2 begins a draft, kind 3 lengthens it by a row, kind 4 makes it a rule
 -- in force, kind 5 takes such a rule away; kind 6 begins a draft with all the rows of a gap rule; kind 7 keeps the board under a name, and kind 8 makes the one that is
--- kept there the board, without a draft, and it stays kept
+-- kept there the board, without a draft, and it stays kept; kind 9 cancels a call
 abbrev pub effect : Ledger → Command → List ℕ → Ledger
 effect L kind.Board ns = record { board = bare (upToZero ns); draft = none; marks = noneKept }
 effect L (kind.Head h) ns =
@@ -186,6 +194,7 @@ effect L (kind.Retract n) ns = record { board = withRule (L .board) n none; draf
 effect L (kind.Gap f) ns = record { board = L .board; draft = some (record { number = f .number; rule = ruleOfGap (L .board .counts) f }); marks = L .marks }
 effect L (kind.Keep name) ns = record { board = L .board; draft = L .draft; marks = set (L .marks) name (some (L .board)) }
 effect L (kind.Back name) ns = record { board = keptOr (keptUnder L name); draft = none; marks = L .marks }
+effect L (kind.Cancel c) ns = record { board = cancelCall (L .board) c; draft = L .draft; marks = L .marks }
 
 abbrev pub readEffect : Ledger → Read → List ℕ → Ledger
 readEffect L (found.Command c) ns = effect L c ns

@@ -7,7 +7,7 @@ use Prim.Native.Nat.{ℕ, _<_}
 use lib.ListN.{length}
 use lib.Dec.{eqb}
 use Rattle.model.specs.declared.answer.Answer.{Answer}
-use Rattle.model.specs.Board.{Rule, Board, InForce, Viable, Alive, Dead, FullPlan, AtLeast}
+use Rattle.model.specs.Board.{Rule, Board, InForce, Live, Viable, Alive, Dead, FullPlan, AtLeast}
 use Rattle.model.specs.Records.{Open, Struck, Caused, KillerIn, NoRing, EscapeFromAll}
 use Rattle.model.specs.Ledger.{Member}
 use Rattle.model.specs.Promise.{Promise}
@@ -76,6 +76,7 @@ pub record Demand3 (B : Board) (s : State) : Type 0 where
   -- demand 2 after the list (SCOPE 6.11): the bytes say open exactly where the definition does
   pub viable : (c t : ℕ) → Open B (causeOf (s .slots)) c t ↔ Viable B c t
 
--- AND OF TWO LISTS (SCOPE 6.14): with the same calls and counts, and at least the same rules after the second, each slot open after it is open after the first
+-- AND OF TWO LISTS (SCOPE 6.14, 6.21): with the same calls and counts, at least the same rules after the second, and no call cancelled after it that is not after the first,
+-- each slot open after it is open after the first, on calls cancelled after neither
 abbrev pub Demand3Two : Board → State → Board → State → Type 0
-Demand3Two B s B′ s′ = AtLeast B B′ → (c t : ℕ) → Open B′ (causeOf (s′ .slots)) c t → Open B (causeOf (s .slots)) c t
+Demand3Two B s B′ s′ = AtLeast B B′ → (c t : ℕ) → Live B c → Live B′ c → Open B′ (causeOf (s′ .slots)) c t → Open B (causeOf (s .slots)) c t

@@ -65,6 +65,7 @@ LeavesMarks (kind.Retract n) before after = MarksLeft (before .names) (before .m
 LeavesMarks (kind.Gap f) before after = MarksLeft (before .names) (before .marks) after
 LeavesMarks (kind.Keep name) before after = after ≡ keptAs before name
 LeavesMarks (kind.Back name) before after = after ≡ broughtBack before name
+LeavesMarks (kind.Cancel c) before after = MarksLeft (before .names) (before .marks) after
 
 -- of what was read
 abbrev pub LeavesMarksOf : Read → MarkedState → MarkedState → Type 0

@@ -108,3 +108,11 @@ badName = 26
 -- nothing is kept under the name
 abbrev pub nothingKept : ℕ
 nothingKept = 27
+
+-- the call is cancelled already
+abbrev pub alreadyCancelled : ℕ
+alreadyCancelled = 28
+
+-- a call of a new rule is cancelled
+abbrev pub cancelledCall : ℕ
+cancelledCall = 29

@@ -16,13 +16,13 @@ use Rattle.model.specs.declared.answer.RowState.{RowState}
 use Rattle.model.specs.declared.answer.RowState.the-variants as row
 use Rattle.model.specs.declared.answer.Support.{Support}
 use Rattle.model.specs.declared.answer.Support.the-variants as support
-use Rattle.model.specs.Board.{Rule, Board, callAt, slotAt, InForce, Active, InScope, Viable, Alive}
+use Rattle.model.specs.Board.{Rule, Board, callAt, slotAt, Cancelled, OnBoard, InForce, Active, InScope, Viable, Alive}
 use Rattle.model.specs.Tests.{countBelow, first}
 use Rattle.model.specs.Ledger.{Ledger, LedgerShape, noBoard?, badNumber?, notInForce?}
 use Rattle.model.specs.Report.{open?}
 use Rattle.model.specs.Promise.{valuesAt}
 use Rattle.model.specs.Representation.{noCalls?, Represents, ruleAt}
-use Rattle.layout.specs.Places.{causeOf, columnsOf, killerOf, rowsOf, rowPlace, scopePlace, rowStart}
+use Rattle.layout.specs.Places.{causeOf, columnsOf, killerOf, rowsOf, rowPlace, scopePlace, rowStart, cancelledByte, cancelled?}
 use Rattle.layout.specs.Memory.{State, lentOf}
 use Rattle.layout.specs.Sizes.{Lent, badLent?}
 use Rattle.model.specs.Refusals.{firstOf}
@@ -124,25 +124,29 @@ pub record SlotsPromise (s : State) (c : ℕ) (given : OpenSlots) : Type 0 where
 abbrev pub stateNumber : SlotState → ℕ
 stateNumber state.Open = 0
 stateNumber (state.Struck n) = 0
+stateNumber state.Cancelled = 0
 stateNumber (state.Refused n) = n
 
--- the cause; 255 of an open slot, as in its byte
+-- the cause; 255 of an open slot and 253 of one of a cancelled call, as in its byte
 abbrev pub stateValues : SlotState → List ℕ
 stateValues state.Open = 255 ∷ []
 stateValues (state.Struck n) = n ∷ []
+stateValues state.Cancelled = cancelledByte ∷ []
 stateValues (state.Refused n) = []
 
 abbrev pub stateBy : ℕ → ℕ → SlotState
-stateBy zero byte = cond (eqb byte 255) state.Open (state.Struck byte)
+stateBy zero byte = cond (eqb byte 255) state.Open (cond (eqb byte cancelledByte) state.Cancelled (state.Struck byte))
 stateBy (suc n) byte = state.Refused (suc n)
 
 abbrev pub stateAnswer : State → ℕ → ℕ → SlotState
 stateAnswer s c t = stateBy (firstOf (slotChecks s c t)) (causeOf (s .slots) c t)
 
--- what it says of the board: open is viable; struck is not, and the cause is the number of a rule in force on the call
+-- what it says of the board: open is viable; struck is not, its call is not cancelled, and the cause is the number of a rule in force on the call; or the call is
+-- cancelled (SCOPE 5.6)
 abbrev pub StateMeans : Board → ℕ → ℕ → SlotState → Type 0
 StateMeans B c t state.Open = Viable B c t
-StateMeans B c t (state.Struck n) = (Viable B c t → ⊥) × ((r : Rule) × InForce B n r × InScope B r c)
+StateMeans B c t (state.Struck n) = OnBoard B c t × (Viable B c t → ⊥) × ((r : Rule) × InForce B n r × InScope B r c)
+StateMeans B c t state.Cancelled = Cancelled B c
 StateMeans B c t (state.Refused n) = ⊥
 
 pub record StateAnswered (L : Ledger) (s : State) (c t : ℕ) (given : SlotState) : Type 0 where
@@ -222,9 +226,13 @@ supportValues (support.Refused n) = []
 abbrev pub supports? : State → ℕ → ℕ → ℕ → ℕ → Bool
 supports? s p k t w = eqb (killerOf (s .killers) p w) 255 && eqb (getD (s .rows) (rowPlace p w k) 0) t
 
--- the lowest of the rule's first m rows that does; m where there is none
+-- the call of column k is cancelled
+abbrev pub columnCancelled? : State → ℕ → ℕ → Bool
+columnCancelled? s p k = cancelled? (s .slots) (getD (s .value .heads .scope) (scopePlace p k) 0)
+
+-- the lowest of the rule's first m rows that does; m where there is none, and where the column's call is cancelled (SCOPE 5.6)
 abbrev pub supportRow : State → ℕ → ℕ → ℕ → ℕ → ℕ
-supportRow s p k t m = first m (supports? s p k t)
+supportRow s p k t m = cond (columnCancelled? s p k) m (first m (supports? s p k t))
 
 -- the row found among m, or none where it is m; and the same as a value
 abbrev pub foundRow : ℕ → ℕ → Support
@@ -242,8 +250,9 @@ supportAnswer s p k t =
     let m = rowsOf (s .value .heads .lengths) p in
     supportBy (firstOf (supportChecks s p k t)) m (supportRow s p k t m)
 
--- row w of the rule supports slot t in column k: it is alive and has the slot there
+-- row w of the rule supports slot t in column k: the column is active, and the row is alive and has the slot there
 pub record SupportingRow (B : Board) (r : Rule) (k t w : ℕ) : Type 0 where
+  pub active : Active B r k
   pub there : w < length (r .rows)
   pub living : Alive B r w
   pub has : slotAt r w k ≡ t

@@ -1,5 +1,5 @@
 -- CAUSES, KILLERS AND RINGS (SCOPE 1.11 to 1.14): what the memory records of a board's slots and rows.
--- `cause` gives a byte for each call and slot (255 open, 254 not on the board, else the cause), `killer` one for each rule's number and row.
+-- `cause` gives a byte for each call and slot (255 open, 253 of a cancelled call, 254 past a call's slots, else the cause), `killer` one for each rule's number and row.
 use mathlib.Core.Path.{_≡_}
 use mathlib.Core.Bool.{Bool}
 use mathlib.Core.Logic.{_⊎_}

@@ -1,20 +1,20 @@
 -- THE REPRESENTATION: which value and bytes are a ledger's (SCOPE 2). Every field and byte is given by an equation, except the causes and killers, which are
 -- free within conditions (10.1).
 use mathlib.Core.Path.{_≡_}
-use mathlib.Core.Bool.{Bool}
+use mathlib.Core.Bool.{Bool, cond}
 use mathlib.Core.List.{List, []}
 use mathlib.Core.Logic.{_↔_}
 use mathlib.Core.Option.{Option, none, some}
 use Prim.Native.Nat.{ℕ, _+_, _*_, _≤_, _<_}
 use lib.ListN.{length, getD}
-use lib.Dec.{eqb}
+use lib.Dec.{eqb, ltb}
 use Rattle.layout.specs.declared.value.Heads.{Heads}
 use Rattle.layout.specs.declared.value.RuleData.{RuleData}
 use Rattle.layout.specs.declared.value.Draft.{Draft}
 use Rattle.model.specs.Board.{Rule, Board, callAt, slotAt, OnBoard, Viable}
 use Rattle.model.specs.Records.{Recorded}
 use Rattle.model.specs.Ledger.{Ledger, NumberedRule, draftOr}
-use Rattle.layout.specs.Places.{causeOf, killerOf, ownPlace, rowPlace, scopePlace}
+use Rattle.layout.specs.Places.{causeOf, killerOf, ownPlace, rowPlace, scopePlace, cancelledByte}
 use Rattle.layout.specs.Memory.{State}
 use Rattle.layout.specs.Sizes.{killersLength, rowsLength, slotsLength}
 
@@ -46,6 +46,10 @@ pub record RowBytes (B : Board) (rows : List ℕ) : Type 0 where
   pub rows-size : length rows ≡ rowsLength
   pub bytes : (p w k : ℕ) → p < 64 → w < 64 → k < 4 → getD rows (rowPlace p w k) 0 ≡ slotAt (ruleAt B p) w k
 
+-- THE BYTE OF A SLOT THAT IS IN NO SET (SCOPE 2.3, 2.12): of a cancelled call, or past the call's slots
+abbrev pub offByte : Board → ℕ → ℕ → ℕ
+offByte B c s = cond (ltb s (getD (B .counts) c 0)) cancelledByte 254
+
 -- A BOARD IS STORED in rule heads and three lists of bytes
 pub record Stored (B : Board) (heads : Heads) (rows killers slots : List ℕ) : Type 0 where
   pub headed : Headed B heads
@@ -53,9 +57,9 @@ pub record Stored (B : Board) (heads : Heads) (rows killers slots : List ℕ) : 
   -- SCOPE 2.2: 255 where the rule has no such row; what the byte of a row is follows from `recorded`
   pub killers-size : length killers ≡ killersLength
   pub spare : (p w : ℕ) → p < 64 → w < 64 → length (ruleAt B p .rows) ≤ w → killerOf killers p w ≡ 255
-  -- SCOPE 2.3: 254 where the board has no such slot; the other bytes are in `viable` and `recorded`
+  -- SCOPE 2.3, 2.12: 254 where the call has no such slot, 253 where it has and is cancelled; the other bytes are in `viable` and `recorded`
   pub slots-size : length slots ≡ slotsLength
-  pub off : (c s : ℕ) → c < 32 → s < 32 → (OnBoard B c s → ⊥) → causeOf slots c s ≡ 254
+  pub off : (c s : ℕ) → c < 32 → s < 32 → (OnBoard B c s → ⊥) → causeOf slots c s ≡ offByte B c s
   -- demand 2 (SCOPE 6.11): the byte says open exactly where the definition does
   pub viable : (c s : ℕ) → c < 32 → s < 32 → (causeOf slots c s ≡ 255) ↔ Viable B c s
   -- causes and killers

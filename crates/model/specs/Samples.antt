@@ -1,5 +1,5 @@
--- THE STARRED SAMPLE BOARDS P1 TO P12, G1 TO G7 AND M1 TO M8 (SCOPE 8.1 to 8.12, 8.16 to 8.30), as commands' bytes, with what is to come of the last command of each,
--- and P4's sheet.
+-- THE STARRED SAMPLE BOARDS P1 TO P12, G1 TO G7, M1 TO M8 AND C1 TO C11 (SCOPE 8.1 to 8.12, 8.16 to 8.41), as commands' bytes, with what is to come of the last command
+-- of each, and the sheets of P4 and C11.
 use mathlib.Core.List.{List, [], _∷_, _++_, map}
 use mathlib.Core.Logic.{_↔_}
 use mathlib.Core.Option.{Option, none, some}
@@ -46,6 +46,9 @@ keepBytes name = 7 ∷ name ∷ []
 
 abbrev pub backBytes : ℕ → List ℕ
 backBytes name = 8 ∷ name ∷ []
+
+abbrev pub cancelBytes : ℕ → List ℕ
+cancelBytes call = 9 ∷ call ∷ []
 
 abbrev pub ledgerOf : List (List ℕ) → Ledger
 ledgerOf commands = run fresh (map member commands)
@@ -277,13 +280,74 @@ markSamples =
     ∷ marked (keepBytes 0 ∷ retractBytes 1 ∷ []) (backBytes 0) 0 1 0 openAlone
     ∷ []
 
+-- C1 TO C11, CANCELLED CALLS (SCOPE 8.31 to 8.41): after P2, of whose three calls two are left or all; and on small boards
+abbrev pub afterP2 : List (List ℕ) → List ℕ → ℕ → ℕ → ℕ → List (List ℕ) → Sample
+afterP2 then last refusal struck reopened left =
+    record { before = p2Before ++ (postBytes ∷ then); last = last; outcome = record { refused = refusal; struck = struck; reopened = reopened; left = left; sheet = none } }
+
+abbrev pub onSmallBoard : List (List ℕ) → List ℕ → ℕ → ℕ → List (List ℕ) → Sample
+onSmallBoard before last refusal struck left =
+    record { before = before; last = last; outcome = record { refused = refusal; struck = struck; reopened = 0; left = left; sheet = none } }
+
+-- what is open of P2, and what is without its call 1
+abbrev pub openP2 : List (List ℕ)
+openP2 = (0 ∷ []) ∷ (1 ∷ []) ∷ (0 ∷ []) ∷ []
+
+abbrev pub openWithoutOne : List (List ℕ)
+openWithoutOne = (0 ∷ 1 ∷ []) ∷ [] ∷ (0 ∷ 1 ∷ []) ∷ []
+
+abbrev pub c1 : Sample
+c1 = afterP2 [] (cancelBytes 1) 0 0 2 openWithoutOne
+
+-- a draft on calls 0 and 1, begun before the cancellation
+abbrev pub draftOfTwo : List ℕ → List (List ℕ)
+draftOfTwo counts = boardBytes counts ∷ headBytes 0 (0 ∷ 1 ∷ []) ∷ []
+
+-- the lines a 1 0 0, a 9 0 0, c 0 0 1, c 1 -, t 2 and end
+abbrev pub c11 : Sample
+c11 =
+    record {
+      before = boardBytes (2 ∷ 2 ∷ []) ∷ [];
+      last = cancelBytes 1;
+      outcome = record {
+        refused = 0;
+        struck = 0;
+        reopened = 0;
+        left = (0 ∷ 1 ∷ []) ∷ [] ∷ [];
+        sheet = some
+            ((97 ∷ 32 ∷ 49 ∷ 32 ∷ 48 ∷ 32 ∷ 48 ∷ 10 ∷ [])
+            ++ (97 ∷ 32 ∷ 57 ∷ 32 ∷ 48 ∷ 32 ∷ 48 ∷ 10 ∷ [])
+            ++ (99 ∷ 32 ∷ 48 ∷ 32 ∷ 48 ∷ 32 ∷ 49 ∷ 10 ∷ [])
+            ++ (99 ∷ 32 ∷ 49 ∷ 32 ∷ 45 ∷ 10 ∷ [])
+            ++ (116 ∷ 32 ∷ 50 ∷ 10 ∷ [])
+            ++ (101 ∷ 110 ∷ 100 ∷ 10 ∷ []));
+      };
+    }
+
+-- two calls that can be cancelled; one twice, one that there is not, and a head on one; a rule without rows on two calls, one of them cancelled, and both; a draft that is
+-- lengthened and put; a back to a mark before the cancellation; a gap rule on a cancelled call; and the sheet
+abbrev pub cancelSamples : List Sample
+cancelSamples =
+    c1
+    ∷ afterP2 [] (cancelBytes 0) 0 0 0 ([] ∷ (1 ∷ []) ∷ (0 ∷ []) ∷ [])
+    ∷ afterP2 (cancelBytes 1 ∷ []) (cancelBytes 1) 28 0 0 openWithoutOne
+    ∷ afterP2 [] (cancelBytes 3) 18 0 0 openP2
+    ∷ afterP2 (cancelBytes 1 ∷ []) (headBytes 2 (0 ∷ 1 ∷ [])) 29 0 0 openWithoutOne
+    ∷ onSmallBoard (draftOfTwo (2 ∷ 2 ∷ []) ++ (cancelBytes 0 ∷ [])) postBytes 0 2 ([] ∷ [] ∷ [])
+    ∷ onSmallBoard (draftOfTwo (2 ∷ 2 ∷ 1 ∷ []) ++ (cancelBytes 0 ∷ cancelBytes 1 ∷ [])) postBytes 0 0 ([] ∷ [] ∷ (0 ∷ []) ∷ [])
+    ∷ onSmallBoard (draftOfTwo (2 ∷ 2 ∷ []) ++ (cancelBytes 1 ∷ rowBytes (0 ∷ 1 ∷ []) ∷ [])) postBytes 0 1 ((0 ∷ []) ∷ [] ∷ [])
+    ∷ afterP2 (keepBytes 0 ∷ cancelBytes 1 ∷ []) (backBytes 0) 0 2 0 openP2
+    ∷ onSmallBoard (boardBytes (2 ∷ 2 ∷ []) ∷ cancelBytes 1 ∷ []) (gapOf 1 0) 29 0 ((0 ∷ 1 ∷ []) ∷ [] ∷ [])
+    ∷ c11
+    ∷ []
+
 -- THE LIST
 abbrev pub samples : List Sample
-samples = p1 ∷ p2 ∷ p3 ∷ p4Post ∷ p4Retract ∷ p4Again ∷ p5 ∷ p6 ∷ p7 ∷ p8 ∷ p9 ∷ p10 ∷ p11 ∷ p12 ∷ gapSamples ++ markSamples
+samples = p1 ∷ p2 ∷ p3 ∷ p4Post ∷ p4Retract ∷ p4Again ∷ p5 ∷ p6 ∷ p7 ∷ p8 ∷ p9 ∷ p10 ∷ p11 ∷ p12 ∷ cancelSamples ++ gapSamples ++ markSamples
 
 -- WHAT REFUSES BYTES FOR THEIR FORM: no byte, a kind that there is not, bodies cut short, bytes left over
 abbrev pub forms : List (List ℕ)
-forms = [] ∷ (10 ∷ []) ∷ (5 ∷ []) ∷ (7 ∷ []) ∷ (8 ∷ 0 ∷ 0 ∷ []) ∷ (6 ∷ 1 ∷ 7 ∷ 0 ∷ 1 ∷ []) ∷ take 32 (boardBytes (1 ∷ [])) ∷ (4 ∷ 0 ∷ []) ∷ []
+forms = [] ∷ (10 ∷ []) ∷ (9 ∷ []) ∷ (5 ∷ []) ∷ (7 ∷ []) ∷ (8 ∷ 0 ∷ 0 ∷ []) ∷ (6 ∷ 1 ∷ 7 ∷ 0 ∷ 1 ∷ []) ∷ take 32 (boardBytes (1 ∷ [])) ∷ (4 ∷ 0 ∷ []) ∷ []
 
 abbrev pub formNumbers : List ℕ
-formNumbers = 3 ∷ 3 ∷ 4 ∷ 4 ∷ 4 ∷ 4 ∷ 4 ∷ 4 ∷ []
+formNumbers = 3 ∷ 3 ∷ 4 ∷ 4 ∷ 4 ∷ 4 ∷ 4 ∷ 4 ∷ 4 ∷ []

@@ -8,7 +8,7 @@ use Rattle.model.specs.declared.command.Command.{Command}
 use Rattle.model.specs.declared.command.Read.{Read}
 use Rattle.model.specs.declared.command.Read.the-variants as found
 use Rattle.model.specs.declared.command.Decoded.{Decoded}
-use Rattle.model.specs.Board.{Board}
+use Rattle.model.specs.Board.{Board, cancelledOn?}
 use Rattle.model.specs.Tests.{upFrom, keepOnly}
 use Rattle.model.specs.Filter.{in?, openOf}
 use Rattle.model.specs.Commands.{kindOf, readAt}
@@ -42,8 +42,15 @@ acceptedLine k s r = line 97 (k ∷ s ∷ r ∷ [])
 abbrev pub refusedLine : ℕ → ℕ → List ℕ
 refusedLine k n = line 114 (k ∷ n ∷ [])
 
-abbrev pub callLine : List (List ℕ) → ℕ → List ℕ
-callLine left c = line 99 (c ∷ keepOnly (in? left c) (upFrom 0 32))
+abbrev pub openLine : List (List ℕ) → ℕ → List ℕ
+openLine left c = line 99 (c ∷ keepOnly (in? left c) (upFrom 0 32))
+
+-- the line of a cancelled call has a dash behind its number (SCOPE 7.13)
+abbrev pub cancelledLine : ℕ → List ℕ
+cancelledLine c = 99 ∷ spaced (c ∷ []) ++ (32 ∷ 45 ∷ 10 ∷ [])
+
+abbrev pub callLine : Board → ℕ → List ℕ
+callLine B c = cond (cancelledOn? B c) (cancelledLine c) (openLine (openOf B) c)
 
 -- the bytes of `end` (SCOPE 7.7)
 abbrev pub endLine : List ℕ
@@ -53,13 +60,13 @@ endLine = 101 ∷ 110 ∷ 100 ∷ 10 ∷ []
 abbrev pub totalLine : ℕ → List ℕ
 totalLine total = line 116 (total ∷ [])
 
-abbrev pub callLines : List (List ℕ) → List ℕ → List ℕ
-callLines left [] = []
-callLines left (c ∷ cs) = callLine left c ++ callLines left cs
+abbrev pub callLines : Board → List ℕ → List ℕ
+callLines B [] = []
+callLines B (c ∷ cs) = callLine B c ++ callLines B cs
 
 -- the lines of the board, if there is one: of its calls, and of the whole
 abbrev pub boardLines : Board → List ℕ
-boardLines B = cond (eqb (length (B .counts)) 0) [] (callLines (openOf B) (upFrom 0 (length (B .counts))) ++ totalLine (openTotal B))
+boardLines B = cond (eqb (length (B .counts)) 0) [] (callLines B (upFrom 0 (length (B .counts))) ++ totalLine (openTotal B))
 
 -- the line of a command, from its refusal's number and the boards before and after
 abbrev pub decisionLine : ℕ → Command → Board → Board → List ℕ

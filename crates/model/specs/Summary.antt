@@ -18,7 +18,8 @@ use Rattle.layout.specs.Sizes.{recordsLength}
 abbrev pub ruleOn? : Board → ℕ → ℕ → Bool
 ruleOn? B c p = has (ruleAt B p .scope) c
 
--- THE RECORD OF A CALL: how many of its slots are open, how many are on the board and not open, and how many rules in force are on it
+-- THE RECORD OF A CALL: how many of its slots are open, how many are on the board and not open, and how many rules in force are on it. A cancelled call has none of
+-- the first two (SCOPE 2.13)
 abbrev pub recordOf : Board → ℕ → Summary
 recordOf B c =
     record { «open» = countBelow 32 (in? (openOf B) c); struck = countBelow 32 (closed? B (openOf B) c); rules = countBelow 64 (ruleOn? B c) }

@@ -63,6 +63,8 @@ pub enum SlotState {
     Open,
     // its cause
     Struck(u8),
+    // its call is cancelled
+    Cancelled,
     Refused(u8),
 }
 

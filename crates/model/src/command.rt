@@ -42,6 +42,8 @@ pub enum Command {
     Keep(u8),
     // back, kind 8: and brought back from there
     Back(u8),
+    // kind 9: this call is cancelled
+    Cancel(u8),
 }
 
 // What stands at a place of a file.

@@ -92,3 +92,9 @@ pub const BAD_NAME: u8 = 26;
 
 // nothing is kept under the name
 pub const NOTHING_KEPT: u8 = 27;
+
+// the call is cancelled already
+pub const ALREADY_CANCELLED: u8 = 28;
+
+// a call of a new rule is cancelled
+pub const CANCELLED_CALL: u8 = 29;

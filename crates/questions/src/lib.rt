@@ -11,7 +11,9 @@ use crate::refusal::call_refusal;
 use crate::refusal::row_refusal;
 use crate::refusal::slot_refusal;
 use crate::refusal::support_refusal;
+use layout::places::CANCELLED;
 use layout::places::byte_at;
+use layout::places::is_cancelled;
 use layout::value::Value;
 use model::answer::OpenSlots;
 use model::answer::RowState;
@@ -33,7 +35,7 @@ pub fn open_slots(value: Value, rows: &[u8], killers: &[u8], slots: &[u8], call:
     OpenSlots::Mask(mask, u32::count_ones(mask))
 }
 
-// Open, or struck with its cause.
+// Open, struck with its cause, or of a cancelled call.
 pub fn slot_state(
     value: Value,
     rows: &[u8],
@@ -52,7 +54,10 @@ pub fn slot_state(
     // a value that the host altered may count more than 32 slots, so the place may lie past the buffer
     let byte = byte_at(slots, 32 * (call as usize) + (slot as usize));
     if byte == 255 {
-        SlotState::Open
+        return SlotState::Open;
+    }
+    if byte == CANCELLED {
+        SlotState::Cancelled
     } else {
         SlotState::Struck(byte)
     }
@@ -106,7 +111,7 @@ pub fn row_bytes<'a>(
     &rows[start..start + 4]
 }
 
-// The lowest living row that holds the slot in the rule's column, or none.
+// The lowest living row that holds the slot in the rule's column, or none; none in the column of a cancelled call.
 pub fn support(
     value: Value,
     rows: &[u8],
@@ -135,6 +140,12 @@ pub fn support(
     );
     if refusal != 0 {
         return Support::Refused(refusal);
+    }
+    if is_cancelled(
+        slots,
+        byte_at(&scope, 4 * (rule as usize) + (column as usize)),
+    ) {
+        return Support::Nothing;
     }
     let held = rows_of(&lengths, rule);
     let row = supporting_row(rows, killers, rule as usize, held, column as usize, slot);

@@ -27,6 +27,7 @@ fn kind_of(command: Command) -> u8
         Command::Gap(_) => 6,
         Command::Keep(_) => 7,
         Command::Back(_) => 8,
+        Command::Cancel(_) => 9,
     }
 }
 

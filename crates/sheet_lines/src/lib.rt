@@ -1,6 +1,7 @@
 // The lines of the sheet, written one after another into a lent buffer. Each function is given the place to write at, asks for room for just what it
 // writes, and returns the place after it.
 // Proved: what is written is the definition's bytes, and every other byte is as it was. Assumed: nothing.
+use layout::places::CANCELLED;
 ghost use mathlib.Core.Path.{_≡_};
 ghost use mathlib.Core.List.{[], _∷_};
 ghost use Prim.Native.Nat.{_≤_, _<_};
@@ -11,7 +12,7 @@ ghost use Rattle.sheet_lines.specs.Append.{Appended, Room};
 ghost use Rattle.sheet_lines.specs.Joined.{joined};
 ghost use Rattle.sheet_lines.specs.Digits.{digitIf};
 ghost use Rattle.sheet_lines.specs.Lines.{start};
-ghost use Rattle.sheet_lines.specs.Calls.{openNumbers, openNumber, slotLine};
+ghost use Rattle.sheet_lines.specs.Calls.{openNumbers, openNumber, callSlots, slotLine};
 ghost use Rattle.layout.specs.Sizes.{slotsLength};
 ghost use Rattle.sheet_lines.specs.Lengths.{decimalEnd};
 
@@ -146,7 +147,21 @@ pub fn open_slots(out: &mut [u8], at: usize, slots: &[u8], c: usize) -> usize
     next
 }
 
-// The line of call c: its number and those of its open slots, with no space after the last.
+// What follows the number of call c: a dash where it is cancelled, else the numbers of its open slots.
+fn call_slots(out: &mut [u8], at: usize, slots: &[u8], c: usize) -> usize
+    requires { ⌜ Room at (length (callSlots (now slots) c)) (now out) ⌝ }
+    requires { ⌜ length (now slots) ≡ slotsLength ⌝ }
+    requires { ⌜ c < 32 ⌝ }
+    ensures { λ r. ⌜ Appended (callSlots (now (slots .entry)) c) at (now (out .entry)) (now (out .exit)) r ⌝ }
+{
+    if slots[32 * c] == CANCELLED {
+        write_bytes(out, at, b" -")
+    } else {
+        open_slots(out, at, slots, c)
+    }
+}
+
+// The line of call c: its number and those of its open slots, with no space after the last, or a dash where it is cancelled.
 pub fn call_line(out: &mut [u8], at: usize, slots: &[u8], c: usize) -> usize
     requires { ⌜ Room at (length (slotLine (now slots) c)) (now out) ⌝ }
     requires { ⌜ length (now slots) ≡ slotsLength ⌝ }
@@ -154,7 +169,7 @@ pub fn call_line(out: &mut [u8], at: usize, slots: &[u8], c: usize) -> usize
     ensures { λ r. ⌜ Appended (slotLine (now (slots .entry)) c) at (now (out .entry)) (now (out .exit)) r ⌝ }
 {
     let numbered = write_start(out, at, b'c', c);
-    let listed = open_slots(out, numbered, slots, c);
+    let listed = call_slots(out, numbered, slots, c);
     write_byte(out, listed, b'\n')
 }
 

@@ -8,17 +8,21 @@ use lib.ListN.{length, getD}
 use lib.Dec.{eqb, ltb}
 use Rattle.layout.specs.declared.value.Heads.{Heads}
 use Rattle.layout.specs.declared.summary.Summary.{Summary}
-use Rattle.layout.specs.Places.{callOf}
+use Rattle.layout.specs.Places.{callOf, causeOf, cancelledByte}
 use Rattle.layout.specs.Summary.{noSummary}
 use Rattle.layout.specs.Sizes.{recordsLength}
 use Rattle.model.specs.Tests.{countBelow}
 use Rattle.model.specs.Report.{open?}
 
+-- the slots of a call that are open or struck, of so many that it has: none where its first slot's byte is a cancelled call's
+abbrev pub slotsLeft : List ℕ → ℕ → ℕ → ℕ
+slotsLeft slots c count = cond (eqb (causeOf slots c 0) cancelledByte) 0 count
+
 -- the figures of a call: how many slot bytes of a call with so many slots are 255, and how many slots that leaves
 abbrev pub figuresOf : List ℕ → ℕ → ℕ → ℕ → Summary
 figuresOf slots c count rules =
     let opened = countBelow 32 (open? slots c) in
-    record { «open» = opened; struck = count - opened; rules = rules }
+    record { «open» = opened; struck = slotsLeft slots c count - opened; rules = rules }
 
 -- column k of rule p, whose arity is n, is on call c
 abbrev pub columnOn? : List ℕ → ℕ → ℕ → ℕ → ℕ → Bool

@@ -1,4 +1,5 @@
 // How many slots of a call are open and struck. The loop counts in bytes, without a branch, so that many bytes are treated at once.
+use layout::places::CANCELLED;
 use layout::summary::Summary;
 ghost use mathlib.Core.Path.{_≡_};
 ghost use mathlib.Core.Bool.{cond};
@@ -8,7 +9,7 @@ ghost use lib.ListN.{length};
 ghost use Rattle.layout.specs.Sizes.{slotsLength};
 ghost use Rattle.model.specs.Tests.{countBelow};
 ghost use Rattle.model.specs.Report.{slotCount, open?};
-ghost use Rattle.summary_counts.specs.Counted.{figuresOf};
+ghost use Rattle.summary_counts.specs.Counted.{slotsLeft, figuresOf};
 
 // 1 for an open slot's byte.
 pub fn is_open(b: u8) -> u8
@@ -41,6 +42,15 @@ pub fn rest(n: u8, taken: u8) -> u8
     if taken <= n { n - taken } else { 0 }
 }
 
+// The slots of call c that are open or struck, of so many that it has: none where it is cancelled.
+pub fn slots_left(slots: &[u8], c: usize, count: u8) -> u8
+    requires { ⌜ length (now slots) ≡ slotsLength ⌝ }
+    requires { ⌜ c < 32 ⌝ }
+    ensures { λ r. ⌜ r ≡ slotsLeft (now (slots .entry)) c count ⌝ }
+{
+    if slots[32 * c] == CANCELLED { 0 } else { count }
+}
+
 // The record of call c, which has so many slots and so many rules on it.
 pub fn figures(slots: &[u8], c: usize, count: u8, rules: u8) -> Summary
     requires { ⌜ length (now slots) ≡ slotsLength ⌝ }
@@ -48,7 +58,7 @@ pub fn figures(slots: &[u8], c: usize, count: u8, rules: u8) -> Summary
     ensures { λ r. ⌜ r ≡ figuresOf (now (slots .entry)) c count rules ⌝ }
 {
     let open = open_count(slots, c);
-    let struck = rest(count, open);
+    let struck = rest(slots_left(slots, c, count), open);
     Summary {
         open,
         struck,

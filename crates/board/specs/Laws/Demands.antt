@@ -2,10 +2,11 @@
 -- list (2.9, 7.11). Nothing is assumed but that each command of a list meets the entry's contract, which `command` of this crate is proved to do.
 use mathlib.Core.Path.{_≡_, _∙_}
 use mathlib.Core.List.{List}
-use mathlib.Core.Logic.{_↔_, _⊎_}
+use mathlib.Core.Logic.{_↔_, _⊎_, inl, inr, ⊎-elim}
 use Prim.Native.Nat.{ℕ, _≤_, _<_}
+use native.Mathlib.Omega.{arith}
 use lib.ListN.{length, getD}
-use Rattle.model.specs.Board.{Rule, Board, InForce, SelfSupporting, Viable, Alive, Dead, FullPlan, AtLeast}
+use Rattle.model.specs.Board.{Rule, Board, callAt, Cancelled, Live, InForce, SelfSupporting, Viable, Alive, Dead, FullPlan, AtLeast}
 use Rattle.model.specs.Records.{Open, Struck, Caused, KillerIn, Ring, NoRing, EscapeFromAll, Recorded}
 use Rattle.model.specs.Ledger.{Member, fresh, run}
 use Rattle.model.specs.Report.{slotCount, open?}
@@ -13,8 +14,9 @@ use Rattle.model.specs.Summary.{Current, openTotal, openSum}
 use Rattle.model.specs.Laws.Theory as theory
 use Rattle.model.specs.Lists.{After}
 use Rattle.model.specs.Laws.Lists.{demand-3, demand-3-two, runs-represent}
-use Rattle.model.specs.Laws.Summary.{absent-zero, total-of-records, total-of-bytes}
-use Rattle.layout.specs.Places.{causeOf, killerOf}
+use Rattle.model.specs.Laws.Summary.{absent-zero, cancelled-zero, total-of-records, total-of-bytes}
+use Rattle.model.specs.Laws.Cancelled.{cancelled-byte}
+use Rattle.layout.specs.Places.{causeOf, killerOf, cancelledByte}
 use Rattle.layout.specs.Summary.{noSummary}
 use Rattle.layout.specs.Sizes.{recordsLength}
 use Rattle.layout.specs.Memory.{Whole}
@@ -86,7 +88,29 @@ module _ {first : List ℕ} (ms : List Member) (s : Whole) (after : After first 
   pub total-bytes : openTotal B ≡ slotCount (open? (s .marked .state .slots))
   total-bytes = total-of-bytes (run fresh ms) (s .marked .state) (runs-represent ms s after .1 .state)
 
--- OF TWO LISTS (SCOPE 6.14): with the same calls and counts, and at least the same rules after the second, each slot open after it is open after the first
+  -- CANCELLED CALLS, after every list (SCOPE 1.21): each slot of one has the byte 253,
+  pub cancelled-bytes : (c t : ℕ) → Cancelled B c → t < getD (B .counts) c 0 → cause c t ≡ cancelledByte
+  cancelled-bytes c t g lt =
+      let shape = runs-represent ms s after .0 .board in
+      let there = shape .cancelled c g in
+      let most = shape .counts c there .1 in
+      cancelled-byte B shape (runs-represent ms s after .1 .state .stored) c t (omega (arith, shape .calls)) (omega arith) lt g
+
+  -- and no self-supporting set has it, with a test or without one;
+  pub cancelled-nowhere : (A : ℕ → ℕ → Type 0) → SelfSupporting B A → (c t : ℕ) → Cancelled B c → A c t → ⊥
+  cancelled-nowhere A self c t g a = theory.live-not B c (theory.on-live B c t (self .slots c t a)) g
+
+  -- its record has no open and no struck slot (2.13);
+  pub cancelled-record : (c : ℕ) → c < recordsLength → Cancelled B c → (getD (s .table) c noSummary .«open» ≡ 0) × (getD (s .table) c noSummary .struck ≡ 0)
+  cancelled-record c lc g = rw (current .each c lc) (cancelled-zero B c g)
+
+  -- and no killer is in its column (2.12)
+  pub killers-live : (p : ℕ) (r : Rule) → InForce B p r → (w : ℕ) → w < length (r .rows) → (killer p w ≡ 255) ⊎ Live B (callAt r (killer p w))
+  killers-live p r f w lw = ⊎-elim (λ a. inl (a .0)) (λ d. inr (theory.active-live B r (killer p w) (d .0 .column))) (killers-struck p r f w lw)
+
+-- OF TWO LISTS (SCOPE 6.14, 6.21): with the same calls and counts, at least the same rules after the second, and every call that is cancelled after it cancelled after the
+-- first, each slot open after the second is open after the first, on calls cancelled after neither
 pub more-rules-fewer-open : {first first′ : List ℕ} (ms ms′ : List Member) (s s′ : Whole) → After first ms s → After first′ ms′ s′ → AtLeast (boardAfter ms) (boardAfter ms′) → (c t : ℕ)
+    → Live (boardAfter ms) c → Live (boardAfter ms′) c
     → Open (boardAfter ms′) (causeOf (s′ .marked .state .slots)) c t → Open (boardAfter ms) (causeOf (s .marked .state .slots)) c t
 more-rules-fewer-open ms ms′ s s′ after after′ = demand-3-two ms ms′ s s′ after after′

@@ -18,7 +18,6 @@ use Rattle.model.specs.declared.command.Read.the-variants as found
 use Rattle.model.specs.declared.command.Decoded.{Decoded}
 use Rattle.model.specs.Board.{Board}
 use Rattle.model.specs.Tests.{upFrom}
-use Rattle.model.specs.Filter.{openOf}
 use Rattle.model.specs.Commands.{isKind, bodySize, headAt, rowAt, gapAt, commandAt, countsAt, without, readAt}
 use Rattle.model.specs.Ledger.{Ledger, fresh, lentConditions, formConditions, ownConditions, kindConditions, obey, step, run, lengths, member}
 use Rattle.model.specs.Report.{slotCount, open?}
@@ -91,42 +90,44 @@ read-whole s at c = go (leb (length s) at) (isKind (getD s at 0)) (leb (at + 1 +
 four-passed : (k : ℕ) → 1 ≤ k → (k ≡ 1 → ⊥) → (k ≡ 2 → ⊥) → (k ≡ 3 → ⊥) → (k ≡ 4 → ⊥) → 5 ≤ k
 four-passed k least a b c d = omega arith
 
-eight-passed : (k : ℕ) → 5 ≤ k → k ≤ 8 → (k ≡ 5 → ⊥) → (k ≡ 6 → ⊥) → (k ≡ 7 → ⊥) → (k ≡ 8 → ⊥) → ⊥
-eight-passed k least most a b c d = omega arith
+nine-passed : (k : ℕ) → 5 ≤ k → k ≤ 9 → (k ≡ 5 → ⊥) → (k ≡ 6 → ⊥) → (k ≡ 7 → ⊥) → (k ≡ 8 → ⊥) → (k ≡ 9 → ⊥) → ⊥
+nine-passed k least most a b c d e = omega arith
 
 one-of-kinds : (k : ℕ) → isKind k ≡ true → eqb k 1 ≡ false → eqb k 2 ≡ false → eqb k 3 ≡ false → eqb k 4 ≡ false → eqb k 5 ≡ false → eqb k 6 ≡ false → eqb k 7 ≡ false
-    → eqb k 8 ≡ false → ⊥
-one-of-kinds k known a b c d e f g h =
-    let both = and-eq-true-iff (leb 1 k) (leb k 8) .0 known in
+    → eqb k 8 ≡ false → eqb k 9 ≡ false → ⊥
+one-of-kinds k known a b c d e f g h i =
+    let both = and-eq-true-iff (leb 1 k) (leb k 9) .0 known in
     let low = four-passed k (leb-true 1 k (both .0)) (eqb-false k 1 a) (eqb-false k 2 b) (eqb-false k 3 c) (eqb-false k 4 d) in
-    eight-passed k low (leb-true k 8 (both .1)) (eqb-false k 5 e) (eqb-false k 6 f) (eqb-false k 7 g) (eqb-false k 8 h)
+    nine-passed k low (leb-true k 9 (both .1)) (eqb-false k 5 e) (eqb-false k 6 f) (eqb-false k 7 g) (eqb-false k 8 h) (eqb-false k 9 i)
 
 command-alike : (s t : List ℕ) (k b b′ : ℕ) → isKind k ≡ true → ((j : ℕ) → j < bodySize k → getD s (b + j) 0 ≡ getD t (b′ + j) 0) → commandAt s k b ≡ commandAt t k b′
 command-alike s t k b b′ known =
-    go (eqb k 1) (eqb k 2) (eqb k 3) (eqb k 4) (eqb k 5) (eqb k 6) (eqb k 7) (eqb k 8) (one-of-kinds k known)
+    go (eqb k 1) (eqb k 2) (eqb k 3) (eqb k 4) (eqb k 5) (eqb k 6) (eqb k 7) (eqb k 8) (eqb k 9) (one-of-kinds k known)
   where
     first : getD s (b + 0) 0 ≡ getD t (b′ + 0) 0 → getD s b 0 ≡ getD t b′ 0
     first e = rw (add-zero b, add-zero b′) at e
 
-    go : (u v w x y z m n : Bool) → (u ≡ false → v ≡ false → w ≡ false → x ≡ false → y ≡ false → z ≡ false → m ≡ false → n ≡ false → ⊥)
-        → ((j : ℕ) → j < cond u 32 (cond v 6 (cond w 4 (cond y 1 (cond z 5 (cond m 1 (cond n 1 0)))))) → getD s (b + j) 0 ≡ getD t (b′ + j) 0)
+    go : (u v w x y z m n i : Bool)
+        → (u ≡ false → v ≡ false → w ≡ false → x ≡ false → y ≡ false → z ≡ false → m ≡ false → n ≡ false → i ≡ false → ⊥)
+        → ((j : ℕ) → j < cond u 32 (cond v 6 (cond w 4 (cond y 1 (cond z 5 (cond m 1 (cond n 1 (cond i 1 0))))))) → getD s (b + j) 0 ≡ getD t (b′ + j) 0)
         → cond u kind.Board
         (cond v (kind.Head (headAt s b)) (cond w (kind.Row (rowAt s b)) (cond x kind.Post (cond y (kind.Retract (getD s b 0))
-        (cond z (kind.Gap (gapAt s b)) (cond m (kind.Keep (getD s b 0)) (kind.Back (getD s b 0))))))))
+        (cond z (kind.Gap (gapAt s b)) (cond m (kind.Keep (getD s b 0)) (cond n (kind.Back (getD s b 0)) (kind.Cancel (getD s b 0)))))))))
         ≡ cond u kind.Board
         (cond v (kind.Head (headAt t b′)) (cond w (kind.Row (rowAt t b′)) (cond x kind.Post (cond y (kind.Retract (getD t b′ 0))
-        (cond z (kind.Gap (gapAt t b′)) (cond m (kind.Keep (getD t b′ 0)) (kind.Back (getD t b′ 0))))))))
-    go true v w x y z m n last same = refl
-    go false true w x y z m n last same =
+        (cond z (kind.Gap (gapAt t b′)) (cond m (kind.Keep (getD t b′ 0)) (cond n (kind.Back (getD t b′ 0)) (kind.Cancel (getD t b′ 0)))))))))
+    go true v w x y z m n i last same = refl
+    go false true w x y z m n i last same =
         rw (first (same 0 (omega arith)), same 1 (omega arith), same 2 (omega arith), same 3 (omega arith), same 4 (omega arith), same 5 (omega arith)) refl
-    go false false true x y z m n last same = rw (first (same 0 (omega arith)), same 1 (omega arith), same 2 (omega arith), same 3 (omega arith)) refl
-    go false false false true y z m n last same = refl
-    go false false false false true z m n last same = ap kind.Retract (first (same 0 (omega arith)))
-    go false false false false false true m n last same =
+    go false false true x y z m n i last same = rw (first (same 0 (omega arith)), same 1 (omega arith), same 2 (omega arith), same 3 (omega arith)) refl
+    go false false false true y z m n i last same = refl
+    go false false false false true z m n i last same = ap kind.Retract (first (same 0 (omega arith)))
+    go false false false false false true m n i last same =
         rw (first (same 0 (omega arith)), same 1 (omega arith), same 2 (omega arith), same 3 (omega arith), same 4 (omega arith)) refl
-    go false false false false false false true n last same = ap kind.Keep (first (same 0 (omega arith)))
-    go false false false false false false false true last same = ap kind.Back (first (same 0 (omega arith)))
-    go false false false false false false false false last same = absurd (last refl refl refl refl refl refl refl refl)
+    go false false false false false false true n i last same = ap kind.Keep (first (same 0 (omega arith)))
+    go false false false false false false false true i last same = ap kind.Back (first (same 0 (omega arith)))
+    go false false false false false false false false true last same = ap kind.Cancel (first (same 0 (omega arith)))
+    go false false false false false false false false false last same = absurd (last refl refl refl refl refl refl refl refl refl)
 
 -- bytes that are a command with its counts, and nothing more
 pub record Alone (bytes : List ℕ) (c : Command) (counts : List ℕ) : Type 0 where
@@ -227,7 +228,7 @@ lines-none : (B : Board) → length (B .counts) ≡ 0 → boardLines B ≡ []
 lines-none B none = rw (eq-eqb (length (B .counts)) 0 none) refl
 
 lines-there : (B : Board) → (length (B .counts) ≡ 0 → ⊥)
-    → boardLines B ≡ callLines (openOf B) (upFrom 0 (length (B .counts))) ++ totalLine (openTotal B)
+    → boardLines B ≡ callLines B (upFrom 0 (length (B .counts))) ++ totalLine (openTotal B)
 lines-there B there = rw (ne-eqb (length (B .counts)) 0 there) refl
 
 -- THE SHEET OF A FILE THAT IS READ: the lines of its commands, those of the board after them, and `end`
@@ -253,7 +254,7 @@ module _ (input : List ℕ) (short : length input ≤ inputMost) where
   -- where there is one, its total is printed,
   pub prints-open-total : (length (B .counts) ≡ 0 → ⊥) → Prints input B (openTotal B)
   prints-open-total there =
-      let calls = callLines (openOf B) (upFrom 0 (length (B .counts))) in
+      let calls = callLines B (upFrom 0 (length (B .counts))) in
       record {
         sheet = sheet-lines
             ∙ ap (λ (l : List ℕ). l ++ endLine)

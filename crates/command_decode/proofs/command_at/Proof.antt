@@ -1,4 +1,4 @@
--- Each arm's kind picks its case of the definition, and its body's length. A kind that is none of 1 to 7 is 8.
+-- Each arm's kind picks its case of the definition, and its body's length. A kind that is none of 1 to 8 is 9.
 use mathlib.Core.Path.{_≡_}
 use mathlib.Core.Bool.{true, and-eq-true-iff}
 use Prim.Native.Nat.{ℕ, _≤_}
@@ -12,15 +12,16 @@ use Rattle.command_decode.proofs.command_at.Tie as tie
 past-four : (k : ℕ) → 1 ≤ k → (k ≡ 1 → ⊥) → (k ≡ 2 → ⊥) → (k ≡ 3 → ⊥) → (k ≡ 4 → ⊥) → 5 ≤ k
 past-four k least a b c d = omega arith
 
-past-seven : (k : ℕ) → 5 ≤ k → k ≤ 8 → (k ≡ 5 → ⊥) → (k ≡ 6 → ⊥) → (k ≡ 7 → ⊥) → k ≡ 8
-past-seven k least most a b c = omega arith
+past-eight : (k : ℕ) → 5 ≤ k → k ≤ 9 → (k ≡ 5 → ⊥) → (k ≡ 6 → ⊥) → (k ≡ 7 → ⊥) → (k ≡ 8 → ⊥) → k ≡ 9
+past-eight k least most a b c d = omega arith
 
 last-kind : (k : ℕ) → isKind k ≡ true
-    → ((((((Unit {0} × (k ≡ 1 → ⊥)) × (k ≡ 2 → ⊥)) × (k ≡ 3 → ⊥)) × (k ≡ 4 → ⊥)) × (k ≡ 5 → ⊥)) × (k ≡ 6 → ⊥)) × (k ≡ 7 → ⊥) → k ≡ 8
+    → (((((((Unit {0} × (k ≡ 1 → ⊥)) × (k ≡ 2 → ⊥)) × (k ≡ 3 → ⊥)) × (k ≡ 4 → ⊥)) × (k ≡ 5 → ⊥)) × (k ≡ 6 → ⊥)) × (k ≡ 7 → ⊥)) × (k ≡ 8 → ⊥) → k ≡ 9
 last-kind k is rest =
-    let both = and-eq-true-iff (leb 1 k) (leb k 8) .0 is in
-    let low = rest .0 .0 .0 in
-    past-seven k (past-four k (leb-true 1 k (both .0)) (low .0 .0 .0 .1) (low .0 .0 .1) (low .0 .1) (low .1)) (leb-true k 8 (both .1)) (rest .0 .0 .1) (rest .0 .1) (rest .1)
+    let both = and-eq-true-iff (leb 1 k) (leb k 9) .0 is in
+    let low = rest .0 .0 .0 .0 in
+    past-eight k (past-four k (leb-true 1 k (both .0)) (low .0 .0 .0 .1) (low .0 .0 .1) (low .0 .1) (low .1)) (leb-true k 9 (both .1)) (rest .0 .0 .0 .1) (rest .0 .0 .1) (rest .0 .1)
+    (rest .1)
 
 head-at-requires : tie.Need-head-at-requires
 head-at-requires c κs = rw (c .match .keys2) at (c .before .before .pre .1)
@@ -43,6 +44,11 @@ shared-slice-read-t11 c =
 
 shared-slice-read-t13 : tie.Need-shared-slice-read-t13
 shared-slice-read-t13 c =
+    let fits = rw (c .before .match .keys8) at (c .before .before .before .pre .1) in
+    omega arith
+
+shared-slice-read-t15 : tie.Need-shared-slice-read-t15
+shared-slice-read-t15 c =
     let pre = c .before .before .before .pre in
     let fits = rw (last-kind _ (pre .0) (c .before .match .rest)) at (pre .1) in
     omega arith
@@ -69,7 +75,10 @@ returns-7 : tie.Need-returns-7
 returns-7 c = simp (c .before .match .keys7)
 
 returns-8 : tie.Need-returns-8
-returns-8 c = simp (last-kind _ (c .before .before .before .pre .0) (c .before .match .rest))
+returns-8 c = simp (c .before .match .keys8)
+
+returns-9 : tie.Need-returns-9
+returns-9 c = simp (last-kind _ (c .before .before .before .pre .0) (c .before .match .rest))
 
 pub command-at-spec : {M : Type 1} → statement M
 command-at-spec =
@@ -81,6 +90,7 @@ command-at-spec =
     gap-at-requires
     shared-slice-read-t11
     shared-slice-read-t13
+    shared-slice-read-t15
     returns
     returns-2
     returns-3
@@ -88,4 +98,5 @@ command-at-spec =
     returns-5
     returns-6
     returns-7
-    returns-8)
+    returns-8
+    returns-9)

@@ -18,7 +18,7 @@ use Rattle.model.specs.declared.command.Command.the-variants as kind
 use Rattle.model.specs.Board.{Rule, slotAt}
 use Rattle.model.specs.Commands.{scopeOf, slotsOf}
 use Rattle.model.specs.Ledger.{Ledger, LedgerShape, draftOr, badSpare?, kindConditions}
-use Rattle.model.specs.Representation.{Headed, RuleHeld, Drafted}
+use Rattle.model.specs.Representation.{RuleHeld, Represents}
 use Rattle.model.specs.Laws.Tests.{none-passes}
 use Rattle.model.specs.Laws.Refusals.{none-holds, agree-first}
 use Rattle.model.specs.Numbers as refused
@@ -27,6 +27,7 @@ use Rattle.command_draft.specs.Fields.{headChecks, addRowChecks}
 use Rattle.command_draft.specs.Drafts.{Redraws, draftOf, withSlots, longerRule, withRow}
 use Rattle.command_draft.specs.Laws.Redraft.{new-left, RedraftRight}
 use Rattle.command_draft.specs.Laws.Fields.{any-default, arity-most, draft-limits, head-checks-agree, row-checks-agree}
+use Rattle.layout.specs.Memory.{stateOf}
 use Rattle.layout.specs.Laws.Memory.{filled}
 use Rattle.tables.specs.Laws.Facts.{lt-or-le}
 use Rattle.model.specs.Refusals.{firstOf}
@@ -57,17 +58,17 @@ head-held h most good =
       rows = λ w k lw lk. filled 256 255 .all (4 * w + k) (omega arith);
     }
 
-module _ (value : Value) (h : Head) where
-  head-first : (L : Ledger) → LedgerShape L → Headed (L .board) (value .heads) → (ns : List ℕ)
-      → firstOf (headChecks (value .heads .counts) h) ≡ firstOf (kindConditions L (kind.Head h) ns)
-  head-first L shape headed ns = agree-first (head-checks-agree L shape (value .heads) headed h ns)
+module _ (value : Value) (slots : List ℕ) (h : Head) where
+  head-first : (L : Ledger) → LedgerShape L → (rows killers : List ℕ) → Represents L (stateOf value rows killers slots) → (ns : List ℕ)
+      → firstOf (headChecks (value .heads .counts) slots h) ≡ firstOf (kindConditions L (kind.Head h) ns)
+  head-first L shape rows killers is ns = agree-first (head-checks-agree L shape (is .stored) h ns)
 
-  pub head-right : {r : Redrafted} → Redraws (headChecks (value .heads .counts) h) (value .draft) (draftOf h) r → RedraftRight value (kind.Head h) r
+  pub head-right : {r : Redrafted} → Redraws (headChecks (value .heads .counts) slots h) (value .draft) (draftOf h) r → RedraftRight value slots (kind.Head h) r
   head-right {r} given =
       record {
-        number = λ L shape headed drafted ns. given .number ∙ head-first L shape headed ns;
-        drafted = λ z L shape headed drafted ns.
-            let good = none-holds (kindConditions L (kind.Head h) ns) tt (sym (head-first L shape headed ns) ∙ sym (given .number) ∙ z) in
+        number = λ L shape rows killers is ns. given .number ∙ head-first L shape rows killers is ns;
+        drafted = λ z L shape rows killers is ns.
+            let good = none-holds (kindConditions L (kind.Head h) ns) tt (sym (head-first L shape rows killers is ns) ∙ sym (given .number) ∙ z) in
             let held = head-held h (arity-most (h .arity) (good refused.badArity)) (good refused.spareField) in
             rw (new-left given z) (record { number = refl; rule = held });
         board = λ L ns. refl;
@@ -163,21 +164,21 @@ module _ (r : Rule) (rule : RuleData) (w : Row) (held : RuleHeld r rule) (most :
         rows = row-bytes;
       })
 
-module _ (value : Value) (w : Row) where
-  row-first : (L : Ledger) → LedgerShape L → Headed (L .board) (value .heads) → Drafted (L .draft) (value .draft) → (ns : List ℕ)
+module _ (value : Value) (slots : List ℕ) (w : Row) where
+  row-first : (L : Ledger) → LedgerShape L → (rows killers : List ℕ) → Represents L (stateOf value rows killers slots) → (ns : List ℕ)
       → firstOf (addRowChecks (value .heads .counts) (value .draft .rule) w) ≡ firstOf (kindConditions L (kind.Row w) ns)
-  row-first L shape headed drafted ns = agree-first (row-checks-agree L shape (value .heads) headed (value .draft .rule) (drafted .rule) w ns)
+  row-first L shape rows killers is ns = agree-first (row-checks-agree L shape (value .heads) (is .stored .headed) (value .draft .rule) (is .drafted .rule) w ns)
 
   pub row-right : {r : Redrafted} → Redraws (addRowChecks (value .heads .counts) (value .draft .rule) w) (value .draft) (withRow (value .draft) w) r
-      → RedraftRight value (kind.Row w) r
+      → RedraftRight value slots (kind.Row w) r
   row-right {r} given =
       record {
-        number = λ L shape headed drafted ns. given .number ∙ row-first L shape headed drafted ns;
-        drafted = λ z L shape headed drafted ns.
-            let good = none-holds (kindConditions L (kind.Row w) ns) tt (sym (row-first L shape headed drafted ns) ∙ sym (given .number) ∙ z) in
+        number = λ L shape rows killers is ns. given .number ∙ row-first L shape rows killers is ns;
+        drafted = λ z L shape rows killers is ns.
+            let good = none-holds (kindConditions L (kind.Row w) ns) tt (sym (row-first L shape rows killers is ns) ∙ sym (given .number) ∙ z) in
             let room = leb-false 64 (length (draftOr (L .draft) .rule .rows)) (good refused.draftFull) in
-            let held = longer-held (draftOr (L .draft) .rule) (value .draft .rule) w (drafted .rule) (draft-limits L shape .columns) room (good refused.spareField) in
-            rw (new-left given z) (record { number = drafted .number; rule = held });
+            let held = longer-held (draftOr (L .draft) .rule) (value .draft .rule) w (is .drafted .rule) (draft-limits L shape .columns) room (good refused.spareField) in
+            rw (new-left given z) (record { number = is .drafted .number; rule = held });
         board = λ L ns. refl;
         report = λ before after. record { struck = refl; reopened = refl; own = refl };
       }

@@ -14,15 +14,17 @@ use Rattle.layout.specs.declared.value.RuleData.{RuleData}
 use Rattle.model.specs.declared.command.Head.{Head}
 use Rattle.model.specs.declared.command.Row.{Row}
 use Rattle.model.specs.declared.command.Command.the-variants as kind
-use Rattle.model.specs.Board.{Rule, Board, callAt, slotAt, GoodRule, Shape}
+use Rattle.model.specs.Board.{Rule, Board, callAt, slotAt, cancelledOn?, GoodRule, Shape}
 use Rattle.model.specs.Tests.{some?, every?, isNone}
 use Rattle.model.specs.Commands.{scopeOf, slotsOf}
 use Rattle.model.specs.Ledger.{NumberedRule, Ledger, LedgerShape, draftOr, badSpare?, kindConditions}
-use Rattle.model.specs.Representation.{Headed, RuleHeld}
+use Rattle.model.specs.Representation.{Headed, RuleHeld, Stored}
+use Rattle.model.specs.Laws.Cancelled.{cancelled-held}
 use Rattle.model.specs.Laws.Tests.{or-false}
 use Rattle.model.specs.Laws.Refusals.{Agree, none as no-more, next}
 use Rattle.model.specs.Laws.Heads.{no-call, no-calls}
-use Rattle.command_draft.specs.Fields.{offBoard?, callOffBoard?, callTwice?, badArity?, headChecks, cappedColumns, cappedRows, slotOff?, slotOffCall?, sameRow?, rowInDraft?, addRowChecks}
+use Rattle.command_draft.specs.Fields.{offBoard?, callOffBoard?, callCancelled?, callTwice?, badArity?, headChecks, cappedColumns, cappedRows, slotOff?, slotOffCall?, sameRow?, rowInDraft?, addRowChecks}
+use Rattle.layout.specs.Places.{cancelled?}
 use Rattle.model.specs.Laws.Search.{some-same, every-same}
 use Rattle.tables.specs.Laws.Facts.{lt-or-le}
 
@@ -47,17 +49,21 @@ off-board-same B shape heads headed x =
     (lt-or-le x 32)
 
 -- KIND 2: where the arity is good no column is left out
-pub head-checks-agree : (L : Ledger) → LedgerShape L → (heads : Heads) → Headed (L .board) heads → (h : Head) (ns : List ℕ)
-    → Agree (headChecks (heads .counts) h) (kindConditions L (kind.Head h) ns)
-head-checks-agree L shape heads headed h ns =
+pub head-checks-agree : (L : Ledger) → LedgerShape L → {heads : Heads} {rows killers slots : List ℕ} → Stored (L .board) heads rows killers slots → (h : Head) (ns : List ℕ)
+    → Agree (headChecks (heads .counts) slots h) (kindConditions L (kind.Head h) ns)
+head-checks-agree L shape {heads} {rows} {killers} {slots} stored h ns =
     let B = L .board in
+    let headed = stored .headed in
     next (no-calls B (shape .board) heads headed) (λ _. next refl (λ _. next refl (λ good.
     let whole = none-capped (h .arity) good in
     let scope = some-same (h .arity) (λ k. offBoard? (heads .counts) (getD (scopeOf h) k 255)) (λ k. leb (length (B .counts)) (getD (scopeOf h) k 255))
     (λ k lk. off-board-same B (shape .board) heads headed (getD (scopeOf h) k 255)) in
+    let cancelled = some-same (h .arity) (λ k. cancelled? slots (getD (scopeOf h) k 255)) (λ k. cancelledOn? B (getD (scopeOf h) k 255))
+    (λ k lk. cancelled-held B (shape .board) stored (getD (scopeOf h) k 255)) in
     next (ap (callOffBoard? (heads .counts) (scopeOf h)) whole ∙ scope) (λ _.
+    next (ap (callCancelled? slots (scopeOf h)) whole ∙ cancelled) (λ _.
     next (ap (callTwice? (scopeOf h)) whole) (λ _.
-    next (ap (λ (n : ℕ). badSpare? n (scopeOf h)) whole) (λ _. no-more))))))
+    next (ap (λ (n : ℕ). badSpare? n (scopeOf h)) whole) (λ _. no-more)))))))
 
 -- a draft is a rule that the board could have
 abbrev GoodDraft : List ℕ → Option NumberedRule → Type 0

@@ -12,7 +12,7 @@ use Rattle.model.specs.declared.command.Command.{Command}
 use Rattle.model.specs.Board.{Board}
 use Rattle.model.specs.Ledger.{Ledger, LedgerShape, kindConditions, effect}
 use Rattle.model.specs.Report.{Reports}
-use Rattle.model.specs.Representation.{Headed, Stored, Drafted, Represents}
+use Rattle.model.specs.Representation.{Stored, Drafted, Represents}
 use Rattle.model.specs.Promise.{KindPromise}
 use Rattle.model.specs.Refusals.{firstOf}
 use Rattle.model.specs.Laws.Promised.{promise-refused, promise-accepted}
@@ -36,23 +36,24 @@ module _ {checks : List (Bool × ℕ)} {old new : Draft} where
 abbrev pub noChange : Report
 noChange = record { struck = 0; reopened = 0; touched = 0 }
 
--- RIGHT ON EVERY LEDGER whose board and draft the value has: the number is that of the first condition that holds; where it is 0 the draft is the stepped ledger's, whose
--- board is as it was
-pub record RedraftRight (value : Value) (c : Command) (r : Redrafted) : Type 0 where
-  pub number : (L : Ledger) → LedgerShape L → Headed (L .board) (value .heads) → Drafted (L .draft) (value .draft) → (ns : List ℕ) → r .number ≡ firstOf (kindConditions L c ns)
-  pub drafted : r .number ≡ 0 → (L : Ledger) → LedgerShape L → Headed (L .board) (value .heads) → Drafted (L .draft) (value .draft) → (ns : List ℕ)
+-- RIGHT ON EVERY LEDGER whose state has this value and these slot bytes: the number is that of the first condition that holds; where it is 0 the draft is the stepped
+-- ledger's, whose board is as it was
+pub record RedraftRight (value : Value) (slots : List ℕ) (c : Command) (r : Redrafted) : Type 0 where
+  pub number : (L : Ledger) → LedgerShape L → (rows killers : List ℕ) → Represents L (stateOf value rows killers slots) → (ns : List ℕ)
+      → r .number ≡ firstOf (kindConditions L c ns)
+  pub drafted : r .number ≡ 0 → (L : Ledger) → LedgerShape L → (rows killers : List ℕ) → Represents L (stateOf value rows killers slots) → (ns : List ℕ)
       → Drafted (effect L c ns .draft) (r .draft)
   pub board : (L : Ledger) (ns : List ℕ) → L .board ≡ effect L c ns .board
   pub report : (before after : State) → Reports c before after noChange
 
-pub redraft-promise : {value : Value} {c : Command} {r : Redrafted} → RedraftRight value c r → DraftPromise value c (draftOutcome value r)
-redraft-promise {value} {c} {r} right rows killers slots ns = go (ℕ-discrete (r .number) 0)
+pub redraft-promise : {value : Value} {slots : List ℕ} {c : Command} {r : Redrafted} → RedraftRight value slots c r → DraftPromise value slots c (draftOutcome value r)
+redraft-promise {value} {slots} {c} {r} right rows killers ns = go (ℕ-discrete (r .number) 0)
   where
     before : State
     before = stateOf value rows killers slots
 
     number : (L : Ledger) → LedgerShape L → Represents L before → r .number ≡ firstOf (kindConditions L c ns)
-    number L shape is = right .number L shape (is .stored .headed) (is .drafted) ns
+    number L shape is = right .number L shape rows killers is ns
 
     go : Dec (r .number ≡ 0) → KindPromise before c ns (draftOutcome value r .answer) (stateOf (draftOutcome value r .value) rows killers slots)
     go (no ne) = rw (ne-eqb (r .number) 0 ne) (promise-refused before c ns (r .number) ne number)
@@ -64,6 +65,6 @@ redraft-promise {value} {c} {r} right rows killers slots ns = go (ℕ-discrete (
           right .report before (stateOf (withDraft value (r .draft)) rows killers slots),
           record {
             stored = subst (λ (B : Board). Stored B (value .heads) rows killers slots) (right .board L ns) (is .stored);
-            drafted = right .drafted z L shape (is .stored .headed) (is .drafted) ns;
+            drafted = right .drafted z L shape rows killers is ns;
           },
         )))

@@ -55,40 +55,55 @@ module _ {s s′ : State} {c : Command} {ns : List ℕ} {given : Answer} (p : Ki
             represents = record { state = d .represents; names-size = size (is .names-size); marks-size = is .marks-size; held = held L is (firstOf (kindConditions L c ns)) (d .number) };
           }
 
--- KINDS 2 TO 6 have no part in the marks: neither their bytes nor their names, nor what the ledger keeps
-leaves-same : (c : Command) → 2 ≤ kindOf c → kindOf c ≤ 6 → (s s′ : State) (names marks : List ℕ)
-    → LeavesMarks c (markedOf s names marks) (markedOf s′ names marks)
-leaves-same kind.Board least most s s′ names marks = absurd (omega arith)
-leaves-same (kind.Head h) least most s s′ names marks = record { names-are = refl; marks-are = refl }
-leaves-same (kind.Row w) least most s s′ names marks = record { names-are = refl; marks-are = refl }
-leaves-same kind.Post least most s s′ names marks = record { names-are = refl; marks-are = refl }
-leaves-same (kind.Retract n) least most s s′ names marks = record { names-are = refl; marks-are = refl }
-leaves-same (kind.Gap f) least most s s′ names marks = record { names-are = refl; marks-are = refl }
-leaves-same (kind.Keep n) least most s s′ names marks = absurd (omega arith)
-leaves-same (kind.Back n) least most s s′ names marks = absurd (omega arith)
+-- KINDS 2 TO 6 AND 9 have no part in the marks: neither their bytes nor their names, nor what the ledger keeps
+abbrev pub WithoutMarks : Command → Type 0
+WithoutMarks kind.Board = ⊥
+WithoutMarks (kind.Head h) = Unit {0}
+WithoutMarks (kind.Row w) = Unit {0}
+WithoutMarks kind.Post = Unit {0}
+WithoutMarks (kind.Retract n) = Unit {0}
+WithoutMarks (kind.Gap f) = Unit {0}
+WithoutMarks (kind.Keep n) = ⊥
+WithoutMarks (kind.Back n) = ⊥
+WithoutMarks (kind.Cancel c) = Unit {0}
 
-kept-same : (c : Command) → 2 ≤ kindOf c → kindOf c ≤ 6 → (L : Ledger) (ns : List ℕ) → effect L c ns .marks ≡ L .marks
-kept-same kind.Board least most L ns = absurd (omega arith)
-kept-same (kind.Head h) least most L ns = refl
-kept-same (kind.Row w) least most L ns = refl
-kept-same kind.Post least most L ns = refl
-kept-same (kind.Retract n) least most L ns = refl
-kept-same (kind.Gap f) least most L ns = refl
-kept-same (kind.Keep n) least most L ns = absurd (omega arith)
-kept-same (kind.Back n) least most L ns = absurd (omega arith)
+leaves-same : (c : Command) → WithoutMarks c → (s s′ : State) (names marks : List ℕ) → LeavesMarks c (markedOf s names marks) (markedOf s′ names marks)
+leaves-same kind.Board out s s′ names marks = absurd out
+leaves-same (kind.Head h) out s s′ names marks = record { names-are = refl; marks-are = refl }
+leaves-same (kind.Row w) out s s′ names marks = record { names-are = refl; marks-are = refl }
+leaves-same kind.Post out s s′ names marks = record { names-are = refl; marks-are = refl }
+leaves-same (kind.Retract n) out s s′ names marks = record { names-are = refl; marks-are = refl }
+leaves-same (kind.Gap f) out s s′ names marks = record { names-are = refl; marks-are = refl }
+leaves-same (kind.Keep n) out s s′ names marks = absurd out
+leaves-same (kind.Back n) out s s′ names marks = absurd out
+leaves-same (kind.Cancel c) out s s′ names marks = record { names-are = refl; marks-are = refl }
+
+kept-same : (c : Command) → WithoutMarks c → (L : Ledger) (ns : List ℕ) → effect L c ns .marks ≡ L .marks
+kept-same kind.Board out L ns = absurd out
+kept-same (kind.Head h) out L ns = refl
+kept-same (kind.Row w) out L ns = refl
+kept-same kind.Post out L ns = refl
+kept-same (kind.Retract n) out L ns = refl
+kept-same (kind.Gap f) out L ns = refl
+kept-same (kind.Keep n) out L ns = absurd out
+kept-same (kind.Back n) out L ns = absurd out
+kept-same (kind.Cancel c) out L ns = refl
+
+not-board : (c : Command) → WithoutMarks c → c ≡ kind.Board → ⊥
+not-board c out e = subst (λ (x : Command). WithoutMarks x) e out
 
 -- they promise no more than their kind's promise. The command is d by what the match on it found
-pub other-obeys : {s s′ : State} {c d : Command} {ns names marks : List ℕ} {given : Answer} → c ≡ d → 2 ≤ kindOf d → kindOf d ≤ 6 → KindPromise s d ns given s′
+pub other-obeys : {s s′ : State} {c d : Command} {ns names marks : List ℕ} {given : Answer} → c ≡ d → WithoutMarks d → KindPromise s d ns given s′
     → Obeys (markedOf s names marks) c ns given (markedOf s′ names marks)
-other-obeys {s} {s′} {c} {d} {ns} {names} {marks} {given} is least most p = rw is (record { promise = promise; made = λ z. absurd (omega (arith, least, ap kindOf z)) })
+other-obeys {s} {s′} {c} {d} {ns} {names} {marks} {given} is out p = rw is (record { promise = promise; made = λ z. absurd (not-board d out z) })
   where
     held : (L : Ledger) → RepresentsMarked L (markedOf s names marks) → (n : ℕ) → numberOf given ≡ n → (name : ℕ) → name < 2
         → MarkHeld (keptUnder (obey n L (found.Command d) ns) name) (markUnder names name) marks name
-    held L is zero z name known = rw (kept-same d least most L ns) (is .held name known)
+    held L is zero z name known = rw (kept-same d out L ns) (is .held name known)
     held L is (suc n) z name known = is .held name known
 
     promise : MarkedPromise (markedOf s names marks) d ns given (markedOf s′ names marks)
-    promise = with-marks p names names marks (λ n z. refl) (λ z. leaves-same d least most s s′ names marks) (λ e. e) held
+    promise = with-marks p names names marks (λ n z. refl) (λ z. leaves-same d out s s′ names marks) (λ e. e) held
 
 -- KIND 1: its promise of the state
 board-kind : {s s′ : State} {ns : List ℕ} {given : Answer} → MakesBoard ns s given s′ → KindPromise s kind.Board ns given s′

@@ -1,25 +1,26 @@
 -- The counts of the report, which go by call and slot, are those of the tables, which go along the bytes; and how open slots become more or fewer. Assumes nothing.
-use mathlib.Core.Path.{_≡_, refl, sym, ap, _∙_}
+use mathlib.Core.Path.{_≡_, refl, sym, ap, subst, _∙_}
 use mathlib.Core.Bool.{Bool, true, false, _&&_, cond}
 use mathlib.Core.List.{List, [], _∷_}
-use mathlib.Core.Logic.{_⊎_, inl, inr}
-use Prim.Native.Nat.{ℕ, zero, suc, _+_, _*_, _/_, _%_, _<_}
+use mathlib.Core.Logic.{_⊎_, inl, inr, ⊎-elim}
+use Prim.Native.Nat.{ℕ, zero, suc, _+_, _*_, _-_, _/_, _%_, _≤_, _<_}
 use native.Mathlib.Omega.{arith}
 use lib.ListN.{length, getD}
-use borrow.Author.Tests.{ne-eqb, lt-ltb}
+use lib.Dec.{T}
+use borrow.Author.Tests.{eqb-true, ltb-true, ne-eqb, lt-ltb}
 use Rattle.tables.specs.Count.{bit, count}
-use Rattle.tables.specs.Lost.{lost, OnlyLost}
-use Rattle.layout.specs.declared.value.Heads.{Heads}
-use Rattle.model.specs.Board.{Board, OnBoard}
+use Rattle.tables.specs.Lost.{lost, SameOrLost, OnlyLost}
 use Rattle.model.specs.Tests.{countBelow}
 use Rattle.model.specs.Report.{slotCount, struckBetween, reopenedBetween, struckIn}
-use Rattle.model.specs.Representation.{Stored}
-use Rattle.model.specs.Laws.Tests.{count-same, <?}
+use Rattle.model.specs.Laws.Tests.{and→, not→, count-same, count-none}
 use Rattle.filter_propagate.specs.Strikes.{isOpen, isStruck}
 use Rattle.layout.specs.Places.{causeOf}
 use Rattle.tables.specs.Laws.Lost.{lost-back}
 use Rattle.filter_propagate.specs.Laws.Strikes.{open-not-struck}
-use Rattle.filter_meaning.specs.Counts.{SameSlot}
+use Rattle.tables.specs.Laws.Facts.{true-false, true-or-false}
+use Rattle.filter_propagate.specs.Queue.{IsFlagged}
+use Rattle.filter_relax.specs.Spread.{isVisited}
+use Rattle.filter_meaning.specs.Counts.{Neither, Reopening}
 use Rattle.layout.specs.Sizes.{slotsLength}
 
 -- COUNTS BY INDEX AND ALONG A LIST
@@ -71,6 +72,25 @@ lost-reopened before after = lost-slots isStruck isOpen before after
 pub count-struck : (slots : List ℕ) → length slots ≡ slotsLength → count isStruck slots ≡ struckIn slots
 count-struck slots = count-slots isStruck slots
 
+and-false : (a : Bool) → bit (a && false) + 0 ≡ 0
+and-false true = refl
+and-false false = refl
+
+-- no byte is open and struck
+apart-zero : (x : ℕ) → bit (isStruck x && isOpen x) + bit (isOpen x && isStruck x) ≡ 0
+apart-zero x = ⊎-elim (λ (e : isOpen x ≡ true). rw (e, open-not-struck x e) refl) (λ (e : isOpen x ≡ false). rw e (and-false (isStruck x))) (true-or-false (isOpen x))
+
+-- where no byte passes one test before and another after, none is counted
+pub none-counted : (f g : ℕ → Bool) (before after : List ℕ) → ((j : ℕ) → T (f (getD before j 0)) → T (g (getD after j 0)) → ⊥)
+    → slotCount (λ c s. f (causeOf before c s) && g (causeOf after c s)) ≡ 0
+none-counted f g before after none =
+    count-none slotsLength (λ i. f (causeOf before (i / 32) (i % 32)) && g (causeOf after (i / 32) (i % 32)))
+    (λ i l.
+    not→ (f (causeOf before (i / 32) (i % 32)) && g (causeOf after (i / 32) (i % 32)))
+    (λ t.
+    let b = and→ (f (causeOf before (i / 32) (i % 32))) (g (causeOf after (i / 32) (i % 32))) t in
+    none (32 * (i / 32) + i % 32) (b .0) (b .1)))
+
 -- what is lost is what comes back when the change is undone
 and-swap : (a b : Bool) → bit (a && b) ≡ bit (b && a)
 and-swap true true = refl
@@ -89,37 +109,87 @@ pub none-reopened : (before after : List ℕ) → length before ≡ slotsLength 
 none-reopened before after eb ea o =
     sym (lost-reopened before after eb ea) ∙ lost-swap isStruck isOpen before after ∙ lost-back 0 isOpen isStruck open-not-struck before after o
 
--- of one byte: it is open after or was struck now, exactly where it was open or is reopened
-exchange-one : (x y : ℕ) → SameSlot x y → bit (isOpen y) + bit (isOpen x && isStruck y) ≡ bit (isOpen x) + bit (isStruck x && isOpen y)
-exchange-one x y (inl (inl e, inl d)) = rw (e, d) refl
-exchange-one x y (inl (inl e, inr l)) = rw (e, ne-eqb y 255 (λ d. omega arith), lt-ltb y 64 l) refl
-exchange-one x y (inl (inr h, inl d)) = rw (d, ne-eqb x 255 (λ e. omega arith), lt-ltb x 64 h) refl
-exchange-one x y (inl (inr h, inr l)) = rw (ne-eqb x 255 (λ e. omega arith), ne-eqb y 255 (λ d. omega arith), lt-ltb x 64 h) refl
-exchange-one x y (inr t) = rw (t .0, t .1) refl
-
-exchange : (xs ys : List ℕ) → length ys ≡ length xs → ((j : ℕ) → j < length xs → SameSlot (getD xs j 0) (getD ys j 0))
-    → count isOpen ys + lost isOpen isStruck xs ys ≡ count isOpen xs + lost isStruck isOpen xs ys
-exchange [] [] e same = refl
-exchange [] (y ∷ ys) e same = absurd (omega arith)
-exchange (x ∷ xs) [] e same = absurd (omega arith)
-exchange (x ∷ xs) (y ∷ ys) e same =
-    omega (arith, exchange xs ys (omega arith) (λ j h. same (suc j) (omega arith)), exchange-one x y (same 0 (omega arith)))
-
--- THE OPEN SLOTS after a change are those before, less those struck, and those reopened
-pub open-exchange : (before after : List ℕ) → length before ≡ slotsLength → length after ≡ slotsLength → ((j : ℕ) → j < slotsLength → SameSlot (getD before j 0) (getD after j 0))
-    → count isOpen after + struckBetween before after ≡ count isOpen before + reopenedBetween before after
-open-exchange before after eb ea same =
-    ap (λ (n : ℕ). count isOpen after + n) (sym (lost-struck before after eb ea))
-    ∙ exchange before after (ea ∙ sym eb) (λ j h. same j (omega arith))
-    ∙ ap (λ (n : ℕ). count isOpen before + n) (lost-reopened before after eb ea)
-
--- and on two stored boards with the same counts each byte is so
-pub stored-slots : (B B′ : Board) {h h′ : Heads} {rows rows′ killers killers′ slots slots′ : List ℕ} → B .counts ≡ B′ .counts → Stored B h rows killers slots
-    → Stored B′ h′ rows′ killers′ slots′ → (j : ℕ) → j < slotsLength → SameSlot (getD slots j 0) (getD slots′ j 0)
-stored-slots B B′ {slots = slots} {slots′ = slots′} e st st′ j lj =
-    rw (← at-byte slots j, ← at-byte slots′ j) (go (<? (j % 32) (getD (B .counts) (j / 32) 0)))
+-- WHAT A RELAXATION REOPENS, of one byte: where it is visited it is open after or was struck again, and elsewhere neither
+reopen-one : (x o y : ℕ) (v : Bool) → (v ≡ true → x < 64) → (v ≡ true → o ≡ 255) → ((v ≡ true → ⊥) → (o ≡ x) ⊎ Neither o) → (x ≡ 255 → y < 64 → ⊥)
+    → SameOrLost isOpen isStruck o y → bit (isStruck x && isOpen y) + bit (isOpen o && isStruck y) ≡ bit (isVisited v)
+reopen-one x o y true was is kept none (inl e) =
+    let h = was refl in
+    let d : y ≡ 255 = e ∙ is refl in
+    rw (d, is refl, lt-ltb x 64 h) refl
+reopen-one x o y true was is kept none (inr t) =
+    let h = was refl in
+    let l = ltb-true y 64 (t .1) in
+    rw (is refl, lt-ltb x 64 h, ne-eqb y 255 (λ d. omega arith), lt-ltb y 64 l) refl
+reopen-one x o y false was is kept none change = go (kept (λ f. true-false f refl)) change
   where
-    go : OnBoard B (j / 32) (j % 32) ⊎ (OnBoard B (j / 32) (j % 32) → ⊥) → SameSlot (causeOf slots (j / 32) (j % 32)) (causeOf slots′ (j / 32) (j % 32))
-    go (inl on) = inl (st .recorded .sound .either (j / 32) (j % 32) on, st′ .recorded .sound .either (j / 32) (j % 32) (rw e at on))
-    go (inr n) =
-        inr (st .off (j / 32) (j % 32) (omega arith) (omega arith) n, st′ .off (j / 32) (j % 32) (omega arith) (omega arith) (rw e at n))
+    go : (o ≡ x) ⊎ Neither o → SameOrLost isOpen isStruck o y → bit (isStruck x && isOpen y) + bit (isOpen o && isStruck y) ≡ 0
+    go (inl e) (inl d) = let q = d ∙ e in rw (q, e) (apart-zero x)
+    go (inl e) (inr t) =
+        let a : x ≡ 255 = sym e ∙ eqb-true o 255 (t .0) in
+        absurd (none a (ltb-true y 64 (t .1)))
+    go (inr n) (inl d) =
+        let low = n .0 in
+        let high = n .1 in
+        rw (d, ne-eqb o 255 (λ e. omega arith)) (and-false (isStruck x))
+    go (inr n) (inr t) = let high = n .1 in let q = eqb-true o 255 (t .0) in absurd (omega arith)
+
+-- the lists but for their first entries
+reopen-rest : {x o y : ℕ} {v : Bool} {xs os ys : List ℕ} {vs : List Bool} → Reopening (x ∷ xs) (o ∷ os) (y ∷ ys) (v ∷ vs) → Reopening xs os ys vs
+reopen-rest r =
+    let a = r .left-size in
+    let b = r .again .len in
+    let c = r .visited-size in
+    record {
+      left-size = omega arith;
+      visited-size = omega arith;
+      was-struck = λ j f. r .was-struck (suc j) f;
+      is-open = λ j f. r .is-open (suc j) f;
+      kept = λ j n. r .kept (suc j) n;
+      again = record { len = omega arith; each = λ j. r .again .each (suc j) };
+      none-struck = λ j e. r .none-struck (suc j) e;
+    }
+
+reopening : (xs os ys : List ℕ) (vs : List Bool) → Reopening xs os ys vs → lost isStruck isOpen xs ys + lost isOpen isStruck os ys ≡ count isVisited vs
+reopening [] [] [] [] r = refl
+reopening [] [] [] (v ∷ vs) r = let c = r .visited-size in absurd (omega arith)
+reopening [] [] (y ∷ ys) vs r = let b = r .again .len in absurd (omega arith)
+reopening [] (o ∷ os) ys vs r = let a = r .left-size in absurd (omega arith)
+reopening (x ∷ xs) [] ys vs r = let a = r .left-size in absurd (omega arith)
+reopening (x ∷ xs) (o ∷ os) [] vs r = let b = r .again .len in absurd (omega arith)
+reopening (x ∷ xs) (o ∷ os) (y ∷ ys) [] r = let c = r .visited-size in absurd (omega arith)
+reopening (x ∷ xs) (o ∷ os) (y ∷ ys) (v ∷ vs) r =
+    omega (
+      arith,
+      reopening xs os ys vs (reopen-rest r),
+      reopen-one x o y v (r .was-struck 0) (r .is-open 0) (r .kept 0) (r .none-struck 0) (r .again .each 0),
+    )
+
+less : (reopened back struck visited again touched : ℕ) → back ≡ reopened → back + struck ≡ visited → again ≡ struck → touched ≡ visited → reopened ≡ touched - again
+less reopened back struck visited again touched a b c d = omega arith
+
+-- R IS T LESS WHAT IS STRUCK AGAIN
+pub reopened-count : (slots left after : List ℕ) (visited : List Bool) (again touched : ℕ) → length slots ≡ slotsLength → Reopening slots left after visited
+    → again ≡ lost isOpen isStruck left after → touched ≡ count isVisited visited → reopenedBetween slots after ≡ touched - again
+reopened-count slots left after visited again touched size r e t =
+    less (reopenedBetween slots after) (lost isStruck isOpen slots after) (lost isOpen isStruck left after) (count isVisited visited) again touched
+    (lost-reopened slots after size (r .again .len ∙ r .left-size ∙ size)) (reopening slots left after visited r) e t
+
+-- and T is no more than the slots of which something holds that holds of every visited one
+along-flags : (l : List Bool) → count isVisited l ≡ countBelow (length l) (λ i. getD l i false)
+along-flags [] = refl
+along-flags (x ∷ xs) = omega (arith, along-flags xs, count-first (length xs) (λ i. getD (x ∷ xs) i false))
+
+count-most : (n : ℕ) (f g : ℕ → Bool) → ((i : ℕ) → i < n → f i ≡ true → T (g i)) → countBelow n f ≤ countBelow n g
+count-most zero f g to = omega arith
+count-most (suc n) f g to = omega (arith, count-most n f g (λ i h. to i (omega arith)), one (f n) (g n) (to n (omega arith)))
+  where
+    one : (a b : Bool) → (a ≡ true → T b) → cond a 1 0 ≤ cond b 1 0
+    one true true h = omega arith
+    one true false h = absurd (h refl)
+    one false b h = omega arith
+
+pub visited-most : (visited : List Bool) (f : ℕ → ℕ → Bool) → length visited ≡ slotsLength → ((j : ℕ) → j < slotsLength → IsFlagged visited j → T (f (j / 32) (j % 32)))
+    → count isVisited visited ≤ slotCount f
+visited-most visited f size to =
+    subst (λ (n : ℕ). n ≤ slotCount f) (sym (along-flags visited ∙ ap (λ (n : ℕ). countBelow n (λ i. getD visited i false)) size))
+    (count-most slotsLength (λ i. getD visited i false) (λ i. f (i / 32) (i % 32)) to)

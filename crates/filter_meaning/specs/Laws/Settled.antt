@@ -2,17 +2,17 @@
 -- where it is stable on the board.
 use mathlib.Core.Path.{_≡_, refl, sym, _∙_}
 use mathlib.Core.List.{List}
-use mathlib.Core.Logic.{⊎-elim}
+use mathlib.Core.Logic.{inl, inr, ⊎-elim}
 use mathlib.Core.Bool.{Bool}
-use Prim.Native.Nat.{ℕ, _≤_, _<_}
+use Prim.Native.Nat.{ℕ, _<_}
 use native.Mathlib.Omega.{arith}
-use lib.ListN.{length, getD}
+use lib.ListN.{length}
 use Rattle.layout.specs.declared.value.Heads.{Heads}
 use Rattle.model.specs.Board.{Rule, Board, callAt, slotAt, OnBoard, InForce, Holds, Shape}
 use Rattle.model.specs.Records.{Open, Sound, Recorded}
-use Rattle.model.specs.Representation.{Headed, Stored}
-use Rattle.model.specs.Laws.Theory.{all-live, active-below, below-active, open-viable}
-use Rattle.model.specs.Laws.Change.{stable-recorded, on-range, row-on-board, recorded-stable}
+use Rattle.model.specs.Representation.{Headed, offByte, Stored}
+use Rattle.model.specs.Laws.Theory.{on-live, active-below, below-active, open-viable}
+use Rattle.model.specs.Laws.Change.{stable-recorded, on-range, byte-on, row-on-board, recorded-stable}
 use Rattle.filter_propagate.specs.Rules.{RuleBytes, Progress, reached}
 use Rattle.filter_propagate.specs.Queue.{Idle}
 use Rattle.filter_propagate.specs.Stable.{StableBytes}
@@ -20,19 +20,14 @@ use Rattle.filter_propagate.specs.Steps.{Propagated}
 use Rattle.filter_meaning.specs.Rules.{RulesOf, ReadAs, bytesIn}
 use Rattle.filter_meaning.specs.Working.{Working}
 use Rattle.layout.specs.Places.{columnsOf, callOf, causeOf, killerOf}
-use Rattle.tables.specs.Laws.Facts.{lt-or-le}
 use Rattle.filter_meaning.specs.Laws.Rules.{stored-rules, in-force, read-as}
 use Rattle.filter_meaning.specs.Laws.Working.{steps-working}
 use Rattle.model.specs.Changes.{Stable}
 
--- a byte that is 255 is that of a slot of the board, where the bytes off the board are 254
-pub open-on : (B : Board) (slots : List ℕ) → ((c s : ℕ) → c < 32 → s < 32 → (OnBoard B c s → ⊥) → causeOf slots c s ≡ 254)
+-- a byte that is 255 is that of a slot of the board, where the bytes off the board are others
+pub open-on : (B : Board) (slots : List ℕ) → ((c s : ℕ) → c < 32 → s < 32 → (OnBoard B c s → ⊥) → causeOf slots c s ≡ offByte B c s)
     → (c s : ℕ) → c < 32 → s < 32 → causeOf slots c s ≡ 255 → OnBoard B c s
-open-on B slots off c s lc ls e =
-    ⊎-elim
-    (λ (h : s < getD (B .counts) c 0). h)
-    (λ (h : getD (B .counts) c 0 ≤ s). absurd (omega (arith, off c s lc ls (λ (g : s < getD (B .counts) c 0). omega arith))))
-    (lt-or-le s (getD (B .counts) c 0))
+open-on B slots off c s lc ls e = byte-on B (causeOf slots) off c s lc ls (inl e)
 
 -- STABLE IN BYTES AND ON THE BOARD
 module _ (B : Board) (shape : Shape B) (R : RuleBytes) (p : ℕ) (r : Rule) (f : InForce B p r) (b : ReadAs R p r) (killers slots : List ℕ) where
@@ -57,21 +52,24 @@ module _ (B : Board) (shape : Shape B) (R : RuleBytes) (p : ℕ) (r : Rule) (f :
           (λ h. absurd (st .alive w (omega arith) e k (omega arith) (rw (b .place w k lw lk) h)))
           (sound .either (callAt r k) (slotAt r w k) on)
 
-  pub bytes-of-stable : ((c s : ℕ) → c < 32 → s < 32 → (OnBoard B c s → ⊥) → causeOf slots c s ≡ 254) → Stable B (causeOf slots) (killerOf killers) p r
+  pub bytes-of-stable : ((c s : ℕ) → c < 32 → s < 32 → (OnBoard B c s → ⊥) → causeOf slots c s ≡ offByte B c s) → Stable B (causeOf slots) (killerOf killers) p r
       → StableBytes R killers slots p
   bytes-of-stable off st =
       record {
         alive = λ w lw e k lk h.
             let lw′ : w < length (r .rows) = omega arith in
             let lk′ : k < length (r .scope) = omega arith in
-            let o = st .alive w lw′ e k (below-active B r k lk′ (all-live B (callAt r k))) in
+            let good = shape .rules p r f in
+            let most = shape .counts (callAt r k) (good .scope k lk′) .1 in
             let struck : causeOf slots (callAt r k) (slotAt r w k) < 64 = rw (b .place w k lw′ lk′) at h in
+            let on = byte-on B (causeOf slots) off (callAt r k) (slotAt r w k) (b .call-below k lk′) (omega (arith, good .slots w k lw′ lk′)) (inr struck) in
+            let o = st .alive w lw′ e k (below-active B r k lk′ (on-live B (callAt r k) (slotAt r w k) on)) in
             omega (arith, o .1);
         held = λ k s lk ls o.
             let lk′ : k < length (r .scope) = omega arith in
             let e : causeOf slots (callAt r k) s ≡ 255 = rw (b .call k lk′) at o in
             let on = open-on B slots off (callAt r k) s (b .call-below k lk′) ls e in
-            let x = st .held (callAt r k) s (on, e) (record { column = k; active = below-active B r k lk′ (all-live B (callAt r k)); call = refl }) in
+            let x = st .held (callAt r k) s (on, e) (record { column = k; active = below-active B r k lk′ (on-live B (callAt r k) s on); call = refl }) in
             let lw = x .1 in
             record { row = x .0; inside = omega arith; lives = x .2; holds = b .slot (x .0) k (x .1) lk′ ∙ slot k lk′ s (x .0) (x .3) };
       }

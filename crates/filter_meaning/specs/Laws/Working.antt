@@ -9,9 +9,9 @@ use lib.Seq.{ext-getD}
 use Rattle.tables.specs.Assign.{Below}
 use Rattle.model.specs.Board.{Rule, Board, callAt, slotAt, OnBoard, InForce, InScope, Holds, Shape}
 use Rattle.model.specs.Records.{Struck, KillerIn, Sound}
-use Rattle.model.specs.Representation.{ruleOr, ruleAt}
-use Rattle.model.specs.Laws.Theory.{all-live, active-below, below-active}
-use Rattle.model.specs.Laws.Change.{strike-sound, kill-sound, on-range, row-on-board}
+use Rattle.model.specs.Representation.{ruleOr, ruleAt, offByte}
+use Rattle.model.specs.Laws.Theory.{on-live, active-below, below-active}
+use Rattle.model.specs.Laws.Change.{strike-sound, kill-sound, on-range, off-limits, byte-on}
 use Rattle.filter_propagate.specs.Rules.{RuleBytes, Progress}
 use Rattle.filter_propagate.specs.Rows.{Unsupported}
 use Rattle.filter_propagate.specs.Strikes.{ColumnWith}
@@ -27,7 +27,8 @@ use Rattle.filter_meaning.specs.Laws.Rules.{read-as, distinct}
 use Rattle.filter_meaning.specs.Working.{Working}
 use Rattle.model.specs.Changes.{Strikes, Kills}
 
-module _ (B : Board) (shape : Shape B) (R : RuleBytes) {p r : ℕ} {x y : Progress} (st : Stepped R p r x y) (known : RulesOf B R) where
+module _ (B : Board) (shape : Shape B) (R : RuleBytes) {p r : ℕ} {x y : Progress} (st : Stepped R p r x y) (known : RulesOf B R)
+    (off : (c s : ℕ) → c < 32 → s < 32 → (OnBoard B c s → ⊥) → causeOf (x .slots) c s ≡ offByte B c s) where
   -- the killer that a row got is the column of a struck slot of it
   got-killer : (q : ℕ) (u : Rule) → InForce B q u → (w : ℕ) → w < length (u .rows) → Kill R (x .slots) p (64 * q + w) (killerOf (x .killers) q w) (killerOf (y .killers) q w)
       → KillerIn B (killerOf (y .killers)) (Struck B (causeOf (x .slots))) u q w
@@ -39,11 +40,13 @@ module _ (B : Board) (shape : Shape B) (R : RuleBytes) {p r : ℕ} {x y : Progre
       let own : p ≡ q = omega arith in
       let row : k .row ≡ w = omega arith in
       let lk : killerOf (y .killers) q w < length (u .scope) = omega (arith, rw own at (k .column)) in
-      let count = below-active B u (killerOf (y .killers) q w) lk (all-live B (callAt u (killerOf (y .killers) q w))) in
-      record {
-        column = count;
-        member = (row-on-board B shape q u f w (killerOf (y .killers) q w) lw count, rw (own, row, b .place w (killerOf (y .killers) q w) lw lk) at (k .struck));
-      }
+      let c = callAt u (killerOf (y .killers) q w) in
+      let s = slotAt u w (killerOf (y .killers) q w) in
+      let good = shape .rules q u f in
+      let most = shape .counts c (good .scope (killerOf (y .killers) q w) lk) .1 in
+      let struck : causeOf (x .slots) c s < 64 = rw (own, row, b .place w (killerOf (y .killers) q w) lw lk) at (k .struck) in
+      let on = byte-on B (causeOf (x .slots)) off c s (b .call-below (killerOf (y .killers) q w) lk) (omega (arith, good .slots w (killerOf (y .killers) q w) lw lk)) (inr struck) in
+      record { column = below-active B u (killerOf (y .killers) q w) lk (on-live B c s on); member = (on, struck) }
 
   step-kills : Kills B (causeOf (x .slots)) (killerOf (x .killers)) (killerOf (y .killers))
   step-kills =
@@ -62,7 +65,7 @@ module _ (B : Board) (shape : Shape B) (R : RuleBytes) {p r : ℕ} {x y : Progre
       let range = on-range B shape c s on in
       let call : callAt u k ≡ c = omega (arith, b .call k lk′, range .2) in
       let slot : s ≡ t = omega (arith, range .2) in (
-        record { column = k; active = below-active B u k lk′ (all-live B (callAt u k)); call = call },
+        record { column = k; active = below-active B u k lk′ (rw call (on-live B c s on)); call = call },
         λ w lw hd e.
             let one = b .one-column (hd .column) k (active-below B u (hd .column) (hd .active)) lk′ (hd .call ∙ sym call) in
             let held : slotAt u w k ≡ s = rw one at (hd .slot) in
@@ -97,10 +100,10 @@ step-working B shape R {p} {r} {x} {y} st work =
     record {
       sizes = step-sizes R st (R .rows) (work .sizes);
       rules = work .rules;
-      sound = step-sound B shape R st (work .rules) (work .sound);
+      sound = step-sound B shape R st (work .rules) (work .off) (work .sound);
       off = λ c s lc ls n.
           let e = work .off c s lc ls n in
-          ⊎-elim (λ h. h ∙ e) (λ t. let o = t .0 in absurd (omega arith)) (st .revised .strikes .assigned .each (32 * c + s));
+          ⊎-elim (λ h. h ∙ e) (λ t. let o = t .0 in absurd (omega (arith, off-limits B c s .1))) (st .revised .strikes .assigned .each (32 * c + s));
       spare = λ q w lq lw le. ⊎-elim (λ h. h ∙ work .spare q w lq lw le) (λ k. absurd (past q w lw le k)) (step-killers R st (64 * q + w));
       calm = calm-step R st (distinct B shape R (work .rules) p (st .rule)) (work .calm);
     }

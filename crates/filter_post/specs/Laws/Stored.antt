@@ -10,7 +10,7 @@ use lib.ListN.{length, getD, replicate, length-replicate}
 use lib.Seq.{getD-set-same, getD-set-other}
 use Rattle.layout.specs.declared.value.Heads.{Heads}
 use Rattle.layout.specs.declared.value.RuleData.{RuleData}
-use Rattle.model.specs.Board.{Rule, Board, InForce, live?, GoodRule, Shape}
+use Rattle.model.specs.Board.{Rule, Board, InForce, GoodRule, Shape}
 use Rattle.model.specs.Records.{Struck, KillerIn, Sound}
 use Rattle.model.specs.Ledger.{withRule}
 use Rattle.model.specs.Report.{struckBetween, reopenedBetween}
@@ -56,12 +56,11 @@ module _ (B : Board) (shape : Shape B) (p : ℕ) (lp : p < 64) (free : getD (B .
 
   -- the records stay sound, where the rule's rows have no killer
   post-sound : (cause killer : ℕ → ℕ → ℕ) → ((w : ℕ) → w < length (r .rows) → killer p w ≡ 255) → Sound B cause killer → Sound (withRule B p (some r)) cause killer
-  unfolding live?
   post-sound cause killer living sound =
       record {
         either = sound .either;
         grounded = λ c s h.
-            keep-grounded B (withRule B p (some r)) cause cause killer killer (λ c s. Unit {0})
+            keep-grounded B (withRule B p (some r)) cause cause killer killer (λ c s. Unit {0}) (λ c l. l) (λ c s t l. l)
             (λ c s t u f. (refl, still-in-force (cause c s) u f))
             (λ c s t u f w lw hd k. (refl, tt))
             (sound .grounded c s h) tt;

@@ -16,6 +16,7 @@ use Rattle.filter_propagate.specs.Rules.{RuleBytes}
 use Rattle.filter_propagate.specs.Queue.{IsFlagged}
 use Rattle.filter_propagate.specs.Stable.{StableBytes}
 use Rattle.filter_propagate.specs.Laws.Stable.{stable-keep}
+use Rattle.layout.specs.Bounds.{Sizes}
 use Rattle.layout.specs.Places.{columnsOf, slotOf, rowCell, callOf}
 use Rattle.filter_relax.specs.Reach.{seed, joins}
 use Rattle.filter_relax.specs.Touched.{Touched, CallsVisited}
@@ -107,6 +108,11 @@ module _ {R : RuleBytes} {b t : ℕ} {killers revived slots reopened : List ℕ}
         stable-keep R q killers revived slots reopened
         (λ k s lk ls. x .slot-kept (32 * callOf (R .scope) q k + s) (λ o. true-false (x .enqueued q lq (k, lk, (s, ls, o))) off))
         (λ w lw. x .row-kept q w lq (omega arith) (λ f. true-false (x .enqueued q lq (freed-on R visited q w _ f)) off))
+
+-- a relaxation leaves the buffers' lengths as they were
+pub relaxed-sizes : {b t : ℕ} {R : RuleBytes} {Seed : ℕ → Type 0} {killers revived slots opened : List ℕ} {visited pending : List Bool}
+    → Relaxed R Seed b t killers revived slots opened visited pending → Sizes (R .rows) killers slots → Sizes (R .rows) revived opened
+relaxed-sizes x s = record { rows-size = s .rows-size; killers-size = x .killers-size ∙ s .killers-size; slots-size = x .slots-size ∙ s .slots-size }
 
 -- WHERE THE MASK OF CALLS IS 0 nothing was set
 pub seed-empty : {Q : ℕ → Type 0} {none seeded : List ℕ} {calls : ℕ} → length none ≡ 32 → Blank (allFlags 32 none) → Adds Q none seeded 0 calls → calls ≡ 0 → (j : ℕ) → Q j → ⊥

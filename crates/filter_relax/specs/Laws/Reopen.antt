@@ -69,7 +69,7 @@ visited-none zero ms = refl
 visited-none (suc n) [] = refl
 visited-none (suc n) (m ∷ ms) = visited-none n ms
 
-zero-none : count isVisited (flagsOf 32 0) ≡ 0
+pub zero-none : count isVisited (flagsOf 32 0) ≡ 0
 unfolding ones
 zero-none = count-flags 32 0 (omega arith)
 

@@ -1,5 +1,6 @@
 -- What the rule touched reopens, the rule is cleared, and propagation follows: `reworked` joins them.
-use Rattle.filter_retract.specs.Laws.Done.{relaxed-sizes, reworked}
+use Rattle.filter_relax.specs.Laws.Relaxed.{relaxed-sizes}
+use Rattle.filter_retract.specs.Laws.Done.{reworked}
 use borrow.Author.Needs.{needs}
 use Rattle.filter_retract.proofs.retract_struck.Statement.{statement}
 use Rattle.filter_retract.proofs.retract_struck.Tie as tie

@@ -74,8 +74,3 @@ reworked {again = again} {revived = revived} {opened} {visited} {pending} s x a 
       propagated = a .propagated;
       difference = e;
     }
-
--- a relaxation leaves the buffers' lengths as they were
-pub relaxed-sizes : {b t : ℕ} {R : RuleBytes} {Seed : ℕ → Type 0} {killers revived slots opened : List ℕ} {visited pending : List Bool}
-    → Relaxed R Seed b t killers revived slots opened visited pending → Sizes (R .rows) killers slots → Sizes (R .rows) revived opened
-relaxed-sizes x s = record { rows-size = s .rows-size; killers-size = x .killers-size ∙ s .killers-size; slots-size = x .slots-size ∙ s .slots-size }

@@ -130,6 +130,7 @@ module _ (L : Ledger) (s s′ : Whole) (bytes : List ℕ) (given : Answer) (is :
     by-kind (kind.Retract n) read apart z l = same-marks l
     by-kind (kind.Gap f) read apart z l = same-marks l
     by-kind (kind.Keep other) read apart z l = other-mark other apart (mark-named other read z) l
+    by-kind (kind.Cancel c) read apart z l = same-marks l
     by-kind (kind.Back other) read apart z l =
         same-marks (record { names-are = ap (λ (x : MarkedState). x .names) l; marks-are = ap (λ (x : MarkedState). x .marks) l })
 

@@ -10,9 +10,9 @@ use native.Mathlib.Omega.{arith}
 use native.Mathlib.Nat.{add-zero, add-suc, suc-add, zero-add, le-of-suc-le-suc}
 use lib.ListN.{length, getD}
 use lib.Dec.{T, eqb, eqb→eq, not-T, T-not}
-use Rattle.model.specs.Board.{Rule, Board, callAt, slotAt, InForce, active?, Active, InScope, Holds, Within, Supported, SelfSupporting, Passing, Viable, ViableInAny}
+use Rattle.model.specs.Board.{Rule, Board, callAt, slotAt, cancelledOn?, slotsOn, InForce, active?, Active, InScope, Holds, Within, Supported, SelfSupporting, Passing, Viable, ViableInAny}
 use Rattle.model.specs.Tests.{upFrom, has, keepOnly}
-use Rattle.model.specs.Filter.{in?, inScope?, holds?, within?, supported?, admits?, all?, kept?, passFrom, pass, passes, allSlots, size, openOf}
+use Rattle.model.specs.Filter.{in?, inScope?, holds?, within?, supported?, admits?, all?, kept?, passFrom, pass, passes, slotsFrom, allSlots, size, openOf}
 use Rattle.model.specs.Laws.Tests.{and→, →and, or→, →or, T?, some→, →some, every→, →every, →eqb, keep→, →keep, has-upFrom, upFrom-has}
 use Rattle.model.specs.Laws.Theory.{active-below, numbered}
 
@@ -169,10 +169,17 @@ settles B (suc n) left h = go (λ h. settles B n (pass B left) h) (pass-size B l
     go ih (inl e) = rw (e, still B n left e) e
     go ih (inr h′) = ih (omega arith)
 
-getD-whole : (ns : List ℕ) (c : ℕ) → getD (allSlots ns) c [] ≡ upFrom 0 (getD ns c 0)
-getD-whole [] c = refl
-getD-whole (n ∷ ns) zero = refl
-getD-whole (n ∷ ns) (suc c) = getD-whole ns c
+getD-from : (B : Board) (c : ℕ) (ns : List ℕ) (i : ℕ) → getD (slotsFrom B c ns) i [] ≡ upFrom 0 (cond (cancelledOn? B (c + i)) 0 (getD ns i 0))
+getD-from B c [] i = go (cancelledOn? B (c + i))
+  where
+    go : (b : Bool) → [] ≡ upFrom 0 (cond b 0 0)
+    go true = refl
+    go false = refl
+getD-from B c (n ∷ ns) zero = rw (add-zero c)
+getD-from B c (n ∷ ns) (suc i) = rw (add-suc c i, ← suc-add c i) (getD-from B (suc c) ns i)
+
+getD-all : (B : Board) (c : ℕ) → getD (allSlots B) c [] ≡ upFrom 0 (slotsOn B c)
+getD-all B c = getD-from B 0 (B .counts) c ∙ rw (zero-add c)
 
 -- WHAT IS FOUND: every self-supporting set lies in it, and it is one
 inside : (B : Board) (A : ℕ → ℕ → Type 0) → SelfSupporting B A → (n : ℕ) (left : List (List ℕ)) → ((c s : ℕ) → A c s → In left c s)
@@ -189,16 +196,16 @@ passes-in B (suc n) left c s t = pass→ B left c s (passes-in B n (pass B left)
 module _ (B : Board) where
   pub found-self : SelfSupporting B (Passing (in? (openOf B)))
   found-self =
-      let n = size (allSlots (B .counts)) in
+      let n = size (allSlots B) in
       record {
-        slots = λ c s t. omega (arith, has-upFrom 0 (getD (B .counts) c 0) s (rw (getD-whole (B .counts) c) at (passes-in B n (allSlots (B .counts)) c s t)));
-        support = λ c s t. kept→ B (openOf B) c s (pass→ B (openOf B) c s (rw (settles B n (allSlots (B .counts)) (omega arith)) t) .1);
+        slots = λ c s t. omega (arith, has-upFrom 0 (slotsOn B c) s (rw (getD-all B c) at (passes-in B n (allSlots B) c s t)));
+        support = λ c s t. kept→ B (openOf B) c s (pass→ B (openOf B) c s (rw (settles B n (allSlots B) (omega arith)) t) .1);
       }
 
   pub found-all : (A : ℕ → ℕ → Type 0) → SelfSupporting B A → (c s : ℕ) → A c s → T (in? (openOf B) c s)
   found-all A self =
-      inside B A self (size (allSlots (B .counts))) (allSlots (B .counts))
-      (λ c s a. rw (getD-whole (B .counts) c) (upFrom-has 0 (getD (B .counts) c 0) s (omega arith) (omega (arith, self .slots c s a))))
+      inside B A self (size (allSlots B)) (allSlots B)
+      (λ c s a. rw (getD-all B c) (upFrom-has 0 (slotsOn B c) s (omega arith) (omega (arith, self .slots c s a))))
 
   -- THE FILTER IS RIGHT
   pub found-viable : (c s : ℕ) → T (in? (openOf B) c s) ↔ Viable B c s

@@ -4,14 +4,16 @@ use mathlib.Core.Path.{_≡_, refl, sym, ap, _∙_}
 use mathlib.Core.List.{List, []}
 use mathlib.Core.Logic.{_⊎_, inl, inr}
 use mathlib.Core.Option.{none}
-use Prim.Native.Nat.{ℕ, zero, suc, _+_, _*_, _<_}
+use Prim.Native.Nat.{ℕ, zero, suc, _+_, _*_, _≤_, _<_}
 use native.Mathlib.Omega.{arith}
 use lib.ListN.{length, getD, replicate}
+use borrow.Author.Tests.{le-ltb}
+use Rattle.tables.specs.Laws.Facts.{lt-or-le}
 use Rattle.layout.specs.declared.value.Heads.{Heads}
 use Rattle.model.specs.Board.{Rule, OnBoard, Shape, callAt, slotAt}
 use Rattle.model.specs.Records.{Recorded}
 use Rattle.model.specs.Ledger.{Ledger, bare, noneKept, fresh, keptUnder}
-use Rattle.model.specs.Representation.{ruleOr, ruleAt, RuleHeld, Headed, RowBytes, Stored, Represents}
+use Rattle.model.specs.Representation.{ruleOr, ruleAt, RuleHeld, Headed, RowBytes, offByte, Stored, Represents}
 use Rattle.model.specs.Marks.{MarkHeld, RepresentsMarked}
 use Rattle.model.specs.Laws.Tests.{<?}
 use Rattle.model.specs.Laws.Theory.{free-call}
@@ -60,6 +62,14 @@ module _ (ns : List ℕ) (shape : Shape (bare ns)) where
           alive = λ p r f. absurd (bare-none ns p r f);
         }
 
+    -- no call is cancelled, so what is off the board is past its call's count
+    past : (c s : ℕ) → (OnBoard (bare ns) c s → ⊥) → 254 ≡ offByte (bare ns) c s
+    past c s n = go (lt-or-le s (getD ns c 0))
+      where
+        go : (s < getD ns c 0) ⊎ (getD ns c 0 ≤ s) → 254 ≡ offByte (bare ns) c s
+        go (inl h) = absurd (n h)
+        go (inr le) = rw (le-ltb s (getD ns c 0) le) refl
+
     bare-open : (c s : ℕ) → c < 32 → s < 32 → causeOf slots c s ≡ 255 → OnBoard (bare ns) c s
     bare-open c s lc ls e = go (<? s (getD ns c 0))
       where
@@ -76,7 +86,7 @@ module _ (ns : List ℕ) (shape : Shape (bare ns)) where
           killers-size = fk .size;
           spare = λ p w lp lw le. fk .all (64 * p + w) (omega arith);
           slots-size = size;
-          off = off;
+          off = λ c s lc ls n. off c s lc ls n ∙ past c s n;
           viable = λ c s lc ls. (
             λ e. free-call (bare ns) c (λ p r f o. bare-none ns p r f) s (bare-open c s lc ls e),
             λ v. opened c s (v .self .slots c s (v .has)),

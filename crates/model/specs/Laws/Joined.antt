@@ -9,10 +9,10 @@ use Prim.Native.Nat.{ℕ, zero, suc}
 use native.Mathlib.Omega.{arith}
 use lib.ListN.{getD, set}
 use lib.Seq.{getD-set-other}
-use Rattle.model.specs.Board.{Rule, Board, callAt, slotAt, InForce, live?, Active, InScope, Supported, SelfSupporting, Passing, Viable}
+use Rattle.model.specs.Board.{Rule, Board, callAt, slotAt, InForce, Live, Active, InScope, Supported, SelfSupporting, Passing, Viable}
 use Rattle.model.specs.Filter.{inScope?}
 use Rattle.model.specs.Laws.Tests.{T→, →T, none-some}
-use Rattle.model.specs.Laws.Theory.{all-live, active-same}
+use Rattle.model.specs.Laws.Theory.{on-live, on-count, live-on, active-same}
 use Rattle.model.specs.Laws.Filter.{viable-in-any, onCall→, →onCall}
 use Rattle.model.specs.Joined.{Joined, unless, offCall, withoutCall, by, itself}
 
@@ -45,10 +45,10 @@ off-keeps B c (some u ∷ os) (suc p) r e n = off-keeps B c os p r e n
 counts-off : (B : Board) (c d : ℕ) → d ≢ c → getD (set (B .counts) c 0) d 0 ≡ getD (B .counts) d 0
 counts-off B c d n = getD-set-other (B .counts) c d 0 0 n
 
--- what a rule asks is the same on both boards
-module _ (B B′ : Board) where
+-- what a rule asks is the same on both boards, where the same calls take part
+module _ (B B′ : Board) (to-live : (c : ℕ) → Live B c → Live B′ c) (live-to : (c : ℕ) → Live B′ c → Live B c) where
   pub on-call-along : {r : Rule} {c : ℕ} → InScope B r c → InScope B′ r c
-  on-call-along {r} o = record { column = o .column; active = active-same B B′ r r (o .column) refl (λ l. all-live B′ (callAt r (o .column))) (o .active); call = o .call }
+  on-call-along {r} o = record { column = o .column; active = active-same B B′ r r (o .column) refl (to-live (callAt r (o .column))) (o .active); call = o .call }
 
   pub supported-along : (A C : ℕ → ℕ → Type 0) (r : Rule) (c s : ℕ) → (u : Supported B A r c s)
       → ((k : ℕ) → Active B r k → A (callAt r k) (slotAt r (u .row) k) → C (callAt r k) (slotAt r (u .row) k)) → Supported B′ C r c s
@@ -57,8 +57,8 @@ module _ (B B′ : Board) where
       record {
         row = u .row;
         inside = u .inside;
-        holds = record { column = h .column; active = active-same B B′ r r (h .column) refl (λ l. all-live B′ (callAt r (h .column))) (h .active); call = h .call; slot = h .slot };
-        within = λ k t. let b = active-same B′ B r r k refl (λ l. all-live B (callAt r k)) t in to k b (u .within k b);
+        holds = record { column = h .column; active = active-same B B′ r r (h .column) refl (to-live (callAt r (h .column))) (h .active); call = h .call; slot = h .slot };
+        within = λ k t. let b = active-same B′ B r r k refl (live-to (callAt r k)) t in to k b (u .within k b);
       }
 
 module _ (B : Board) (c : ℕ) where
@@ -74,22 +74,24 @@ module _ (B : Board) (c : ℕ) where
   unfolding Apart
   leave-out A self =
       record {
-        slots = λ d s a. rw (counts-off B c d (λ e. a .1 (rw e itself))) (self .slots d s (a .0));
+        slots = λ d s a. let on = self .slots d s (a .0) in
+            live-on (withoutCall B c) d s (on-live B d s on) (rw (counts-off B c d (λ e. a .1 (rw e itself))) (on-count B d s on));
         support = λ d s a p r f o.
             let g = off-from B c (B .rules) p r f in
-            let o′ = on-call-along (withoutCall B c) B o in
-            supported-along B (withoutCall B c) A (λ d s. A d s × (Joined B c d → ⊥)) r d s (self .support d s (a .0) p r (g .0) o′)
+            let o′ = on-call-along (withoutCall B c) B (λ d l. l) (λ d l. l) o in
+            supported-along B (withoutCall B c) (λ d l. l) (λ d l. l) A (λ d s. A d s × (Joined B c d → ⊥)) r d s (self .support d s (a .0) p r (g .0) o′)
             (λ k t x. (x, spread p r d k (g .0) o′ (a .1) t));
       }
 
   put-back : (A : ℕ → ℕ → Type 0) → SelfSupporting (withoutCall B c) A → SelfSupporting B (Apart A)
-  unfolding Apart live?
+  unfolding Apart
   put-back A self =
       record {
-        slots = λ d s a. rw (counts-off B c d (λ e. a .1 (rw e itself))) at (self .slots d s (a .0));
+        slots = λ d s a. let on = self .slots d s (a .0) in
+            live-on B d s (on-live (withoutCall B c) d s on) (rw (counts-off B c d (λ e. a .1 (rw e itself))) at (on-count (withoutCall B c) d s on));
         support = λ d s a p r f o.
             let g = off-keeps B c (B .rules) p r f (λ oc. a .1 (by p r itself f oc o)) in
-            supported-along (withoutCall B c) B A (λ d s. A d s × (Joined B c d → ⊥)) r d s (self .support d s (a .0) p r g (on-call-along B (withoutCall B c) o))
+            supported-along (withoutCall B c) B (λ d l. l) (λ d l. l) A (λ d s. A d s × (Joined B c d → ⊥)) r d s (self .support d s (a .0) p r g (on-call-along B (withoutCall B c) (λ d l. l) (λ d l. l) o))
             (λ k t x. (x, spread p r d k f o (a .1) (active-same (withoutCall B c) B r r k refl (λ l. l) t)));
       }
 

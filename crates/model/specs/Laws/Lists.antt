@@ -20,7 +20,7 @@ use Rattle.model.specs.Marks.{RepresentsMarked}
 use Rattle.model.specs.Summary.{Current}
 use Rattle.model.specs.Promise.{Answered, Promise}
 use Rattle.model.specs.Lists.{Runs, done, then, standing, standingMarked, Handed, Entered, After, Demand3, Demand3Two}
-use Rattle.model.specs.Laws.Theory.{open-viable, struck-caused, row-records, no-ring, escape-from-all, plan-open, viable-mono}
+use Rattle.model.specs.Laws.Theory.{on-live, open-viable, struck-caused, row-records, no-ring, escape-from-all, plan-open, viable-mono}
 use Rattle.model.specs.Laws.Answers.{refused-by}
 use Rattle.model.specs.Laws.Refusals.{none-holds, first-stands}
 use Rattle.model.specs.Laws.Shapes.{lent-right, shape-step, shape-fresh}
@@ -38,7 +38,7 @@ state-demand L s shape rep =
     record {
       ring = no-ring B cause killer known;
       escape = escape-from-all B cause killer known;
-      plan = λ plan full c lc h. let lt = h .1 in omega (arith, plan-open B cause killer known plan (shape .board) full c lc .1);
+      plan = λ plan full c lc h. let lt = h .1 in omega (arith, plan-open B cause killer known plan (shape .board) full c lc (on-live B c (plan c) (h .0)) .1);
       cause = struck-caused B cause killer known;
       killer = row-records B cause killer known;
       viable = open-viable B cause killer known;
@@ -57,8 +57,8 @@ state-demand L s shape rep =
     known = rep .stored .recorded
 
 pub states-demand : (L L′ : Ledger) (s s′ : State) → LedgerShape L → Represents L s → LedgerShape L′ → Represents L′ s′ → Demand3Two (L .board) s (L′ .board) s′
-states-demand L L′ s s′ shape rep shape′ rep′ more c t o =
-    state-demand L s shape rep .viable c t .1 (viable-mono (L .board) (L′ .board) more c t (state-demand L′ s′ shape′ rep′ .viable c t .0 o))
+states-demand L L′ s s′ shape rep shape′ rep′ more c t l l′ o =
+    state-demand L s shape rep .viable c t .1 (viable-mono (L .board) (L′ .board) more c t l (state-demand L′ s′ shape′ rep′ .viable c t .0 o))
 
 -- OVER ANY LISTS: states S of which `memory` shows the value and the buffers, members M with their effect on the ledger, and any step that keeps the
 -- state a ledger's

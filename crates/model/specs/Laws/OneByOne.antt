@@ -18,6 +18,7 @@ use Rattle.model.specs.Tests.{some?, every?}
 use Rattle.model.specs.Commands.{readAt}
 use Rattle.model.specs.Ledger.{Ledger, Member, noBoard?, badNumber?, lentConditions, kindConditions, formConditions, ownConditions, refusal, readEffect, obey, step, stepBy, run, NoneRefused, lengths, member}
 use Rattle.model.specs.Gaps.{pairTest, ruleOfGap}
+use Rattle.model.specs.Board.{cancelledOn?}
 use Rattle.model.specs.Samples.{headBytes, rowBytes}
 use Rattle.model.specs.Laws.Tests.{or-false, not→, some→, every→}
 use Rattle.model.specs.Laws.Refusals.{none-holds, rest-passes}
@@ -32,6 +33,8 @@ pub record Sendable (L : Ledger) (f : GapRule) : Type 0 where
   pub number : badNumber? (f .number) ≡ false
   pub first-on : leb (length (L .board .counts)) (f .first) ≡ false
   pub second-on : leb (length (L .board .counts)) (f .second) ≡ false
+  pub first-live : cancelledOn? (L .board) (f .first) ≡ false
+  pub second-live : cancelledOn? (L .board) (f .second) ≡ false
   pub apart : eqb (f .first) (f .second) ≡ false
   pub few : length (ruleOfGap (L .board .counts) f .rows) ≤ 64
 
@@ -67,10 +70,10 @@ module _ (L : Ledger) (f : GapRule) where
   head = member (headBytes (f .number) (f .first ∷ f .second ∷ []))
 
   head-accepted : Sendable L f → refusal L lengths (head .bytes) ≡ 0
-  head-accepted s = rw (s .board, s .number, s .first-on, s .second-on, s .apart) refl
+  head-accepted s = rw (s .board, s .number, s .first-on, s .second-on, s .first-live, s .second-live, s .apart) refl
 
   head-sent : Sendable L f → stepBy L head ≡ headed-with []
-  head-sent s = rw (s .board, s .number, s .first-on, s .second-on, s .apart) refl
+  head-sent s = rw (s .board, s .number, s .first-on, s .second-on, s .first-live, s .second-live, s .apart) refl
 
   -- a row of two slots, one of each call, that is not among the others
   module _ (done : List (List ℕ)) (a b : ℕ) (there : noBoard? L ≡ false) (room : length done < 64) (la : a < n) (lb : b < m)
@@ -159,11 +162,14 @@ module _ (L : Ledger) (f : GapRule) where
   allowed-sendable ns e =
       let good = none-holds (kindConditions L (kind.Gap f) ns) tt e in
       let on = or-false (leb (length (L .board .counts)) (f .first)) (leb (length (L .board .counts)) (f .second)) (good refused.callOffBoard) in
+      let live = or-false (cancelledOn? (L .board) (f .first)) (cancelledOn? (L .board) (f .second)) (good refused.cancelledCall) in
       record {
         board = good refused.noBoard;
         number = good refused.badNumber;
         first-on = on .0;
         second-on = on .1;
+        first-live = live .0;
+        second-live = live .1;
         apart = good refused.callTwice;
         few = ltb-false 64 (length (ruleOfGap (L .board .counts) f .rows)) (good refused.tooManyPairs);
       }

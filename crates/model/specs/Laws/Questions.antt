@@ -12,25 +12,27 @@ use lib.ListN.{length, getD, drop, length-drop, List·getD-eq-default}
 use lib.Seq.{getD-take, getD-drop, length-take-le}
 use lib.Dec.{T, eqb, ltb, leb, eqb→eq}
 use borrow.Author.Tests.{eqb-true, ltb-false, leb-false, lt-ltb, le-ltb, le-leb, eq-eqb, ne-eqb}
+use Rattle.model.specs.declared.answer.OpenSlots.the-variants as slots
 use Rattle.model.specs.declared.answer.SlotState.the-variants as state
 use Rattle.model.specs.declared.answer.RowState.the-variants as row
 use Rattle.model.specs.declared.answer.Support.{Support}
 use Rattle.model.specs.declared.answer.Support.the-variants as support
-use Rattle.model.specs.Board.{Rule, Board, callAt, slotAt, OnBoard, InForce, Viable, Alive, Dead, Shape}
+use Rattle.model.specs.Board.{Rule, Board, callAt, slotAt, cancelledOn?, Cancelled, OnBoard, InForce, Active, Viable, Alive, Dead, Shape}
 use Rattle.model.specs.Records.{Struck, Caused, KillerIn, Recorded}
 use Rattle.model.specs.Tests.{some?, countBelow, first, isNone}
 use Rattle.model.specs.Ledger.{Ledger, LedgerShape, noBoard?, notInForce?}
 use Rattle.model.specs.Report.{open?}
 use Rattle.model.specs.Promise.{valuesAt}
 use Rattle.model.specs.Representation.{ruleOr, ruleAt, noCalls?, Represents}
-use Rattle.model.specs.Questions.{callConditions, slotConditions, rowConditions, supportConditions, slotsHeld, callChecks, slotChecks, rowChecks, supportChecks, maskOf, slotsNumber, slotsValues, bit?, slotsBy, slotsAnswer, SlotsMeans, SlotsPromise, stateNumber, stateValues, stateBy, stateAnswer, StateMeans, StatePromise, rowNumber, rowValues, rowBy, rowAnswer, RowMeans, RowPromise, bytesBy, rowBytesAnswer, RowBytesPromise, supportNumber, supportValues, supports?, supportRow, foundRow, foundValue, supportBy, supportAnswer, SupportingRow, SupportMeans, SupportValueMeans, SupportPromise}
-use Rattle.model.specs.Laws.Tests.{or-false, and→, →and, →T, T→, →some, →eqb, none-passes, count-same}
-use Rattle.model.specs.Laws.Theory.{open-viable, struck-caused, row-records}
+use Rattle.model.specs.Questions.{callConditions, slotConditions, rowConditions, supportConditions, slotsHeld, callChecks, slotChecks, rowChecks, supportChecks, maskOf, slotsNumber, slotsValues, bit?, slotsBy, slotsAnswer, SlotsMeans, SlotsPromise, stateNumber, stateValues, stateBy, stateAnswer, StateMeans, StatePromise, rowNumber, rowValues, rowBy, rowAnswer, RowMeans, RowPromise, bytesBy, rowBytesAnswer, RowBytesPromise, supportNumber, supportValues, supports?, columnCancelled?, supportRow, foundRow, foundValue, supportBy, supportAnswer, SupportingRow, NoSupport, SupportMeans, SupportValueMeans, SupportPromise}
+use Rattle.model.specs.Laws.Tests.{T?, or-false, and→, →and, →T, T→, →some, →eqb, none-passes, count-same, count-none}
+use Rattle.model.specs.Laws.Theory.{live-on, live-not, not-live, active-live, below-active, open-viable, struck-caused, row-records}
 use Rattle.model.specs.Laws.Refusals.{none-holds}
 use Rattle.model.specs.Laws.Change.{column-below, on-range}
+use Rattle.model.specs.Laws.Cancelled.{cancelled-off, cancelled-byte, cancelled-held}
 use Rattle.model.specs.Laws.Masks.{bit-below, bit-past}
 use Rattle.model.specs.Laws.Heads.{no-columns, counts-held, no-call, no-calls}
-use Rattle.layout.specs.Places.{causeOf, columnsOf, killerOf, rowsOf}
+use Rattle.layout.specs.Places.{causeOf, columnsOf, killerOf, rowsOf, cancelledByte, cancelled?}
 use Rattle.layout.specs.Memory.{State, lentOf}
 use Rattle.tables.specs.Laws.Facts.{true-false, true-or-false, lt-or-le}
 use Rattle.model.specs.Refusals.{firstOf}
@@ -73,17 +75,25 @@ first-found (suc n) f w h t e = go (λ l. first-found n f w l t e) (eq-or-lt-of-
 
 -- WHAT THE RECORDS MEAN: a slot's byte, and a row's
 module _ (B : Board) (cause killer : ℕ → ℕ → ℕ) (known : Recorded B cause killer) where
-  state-means : (c t : ℕ) → OnBoard B c t → StateMeans B c t (stateBy 0 (cause c t))
-  state-means c t on = go (known .sound .either c t on)
+  on-means : (c t : ℕ) → OnBoard B c t → StateMeans B c t (stateBy 0 (cause c t))
+  on-means c t on = go (known .sound .either c t on)
     where
       go : (cause c t ≡ 255) ⊎ (cause c t < 64) → StateMeans B c t (stateBy 0 (cause c t))
       go (inl e) = rw (eq-eqb (cause c t) 255 e) (open-viable B cause killer known c t .0 (on, e))
       go (inr lt) =
           let why : Caused B cause c t = struck-caused B cause killer known c t (on, lt) in
-          rw (ne-eqb (cause c t) 255 (λ e. omega arith)) (
+          rw (ne-eqb (cause c t) 255 (λ e. omega arith), ne-eqb (cause c t) cancelledByte (λ e. omega arith)) (
+            on,
             λ v. omega (arith, open-viable B cause killer known c t .1 v .1),
             (why .rule, why .force, why .call),
           )
+
+  state-means : (c t : ℕ) → t < getD (B .counts) c 0 → (Cancelled B c → cause c t ≡ cancelledByte) → StateMeans B c t (stateBy 0 (cause c t))
+  state-means c t lt byte = go (T? (cancelledOn? B c))
+    where
+      go : Cancelled B c ⊎ (Cancelled B c → ⊥) → StateMeans B c t (stateBy 0 (cause c t))
+      go (inl g) = let e = byte g in rw (ne-eqb (cause c t) 255 (λ o. omega arith), eq-eqb (cause c t) cancelledByte e) g
+      go (inr n) = on-means c t (live-on B c t (not-live B c n) lt)
 
   -- a row without a killer is alive, and the other way round
   killer-none : Shape B → (p : ℕ) (r : Rule) → InForce B p r → (w : ℕ) → w < length (r .rows) → (killer p w ≡ 255) ↔ Alive B r w
@@ -182,8 +192,11 @@ module _ (L : Ledger) (shape : LedgerShape L) (s : State) (rep : Represents L s)
   call-there c e =
       omega (arith, shape .board .calls, leb-false (length (L .board .counts)) c (none-holds (callConditions L (lentOf s) c) tt e refused.noCall))
 
-  slot-on-board : (c t : ℕ) → firstOf (slotConditions L (lentOf s) c t) ≡ 0 → OnBoard (L .board) c t
-  slot-on-board c t e = leb-false (getD (L .board .counts) c 0) t (none-holds (slotConditions L (lentOf s) c t) tt e refused.noSlot)
+  slot-call : (c t : ℕ) → firstOf (slotConditions L (lentOf s) c t) ≡ 0 → c < length (L .board .counts)
+  slot-call c t e = leb-false (length (L .board .counts)) c (none-holds (slotConditions L (lentOf s) c t) tt e refused.noCall)
+
+  slot-there : (c t : ℕ) → firstOf (slotConditions L (lentOf s) c t) ≡ 0 → t < getD (L .board .counts) c 0
+  slot-there c t e = leb-false (getD (L .board .counts) c 0) t (none-holds (slotConditions L (lentOf s) c t) tt e refused.noSlot)
 
   in-force : (p : ℕ) → notInForce? L p ≡ false → InForce (L .board) p (ruleAt (L .board) p)
   in-force p e = go (getD (L .board .rules) p none) e
@@ -231,10 +244,16 @@ module _ (L : Ledger) (shape : LedgerShape L) (s : State) (rep : Represents L s)
         λ v. absurd (omega (arith, on-range (L .board) (shape .board) c t (v .self .slots c t (v .has)) .2)),
       )
 
-  -- A ROW SUPPORTS a slot in a column exactly where it is alive and has it there
-  supports-means : (p k t w : ℕ) → p < 64 → InForce (L .board) p (ruleAt (L .board) p) → k < length (ruleAt (L .board) p .scope) → w < length (ruleAt (L .board) p .rows)
+  -- the bytes say whether the call of a column is cancelled
+  column-cancelled : (p k : ℕ) → p < 64 → k < length (ruleAt (L .board) p .scope) → columnCancelled? s p k ≡ cancelledOn? (L .board) (callAt (ruleAt (L .board) p) k)
+  column-cancelled p k lp lk =
+      ap (λ (c : ℕ). cancelled? (s .slots) c) (rep .stored .headed .scope p k lp (omega (arith, limits p .0)))
+      ∙ cancelled-held (L .board) (shape .board) (rep .stored) (callAt (ruleAt (L .board) p) k)
+
+  -- A ROW SUPPORTS a slot in an active column exactly where it is alive and has it there
+  supports-means : (p k t w : ℕ) → Active (L .board) (ruleAt (L .board) p) k → p < 64 → InForce (L .board) p (ruleAt (L .board) p) → k < length (ruleAt (L .board) p .scope) → w < length (ruleAt (L .board) p .rows)
       → T (supports? s p k t w) ↔ SupportingRow (L .board) (ruleAt (L .board) p) k t w
-  supports-means p k t w lp f lk lw =
+  supports-means p k t w active lp f lk lw =
       let alive = killer-none (L .board) (causeOf (s .slots)) (killerOf (s .killers)) (rep .stored .recorded) (shape .board) p (ruleAt (L .board) p) f w lw in
       let most = limits p in
       let byte = rep .stored .row-bytes .bytes p w k lp (omega arith) (omega arith) in
@@ -242,6 +261,7 @@ module _ (L : Ledger) (shape : LedgerShape L) (s : State) (rep : Represents L s)
       let there = eqb (getD (s .rows) (256 * p + 4 * w + k) 0) t in (
         λ h. let b = and→ living there h in
             record {
+              active = active;
               there = lw;
               living = alive .0 (eqb→eq (killerOf (s .killers) p w) 255 (b .0));
               has = sym byte ∙ eqb→eq (getD (s .rows) (256 * p + 4 * w + k) 0) t (b .1);
@@ -256,25 +276,42 @@ module _ (L : Ledger) (shape : LedgerShape L) (s : State) (rep : Represents L s)
 
     -- the test says what holds of row v
     supports : (v : ℕ) → SupportingRow (L .board) (ruleAt (L .board) p) k t v → supports? s p k t v ≡ true
-    supports v h = T→ (supports? s p k t v) (supports-means p k t v lp f lk (h .there) .1 h)
+    supports v h = T→ (supports? s p k t v) (supports-means p k t v (h .active) lp f lk (h .there) .1 h)
 
-    no-lower-passes : (v : ℕ) → v < supportRow s p k t m → supports? s p k t v ≡ false
-    no-lower-passes v l = first-lowest m (supports? s p k t) v l
+    -- in an active column
+    module _ (active : columnCancelled? s p k ≡ false) where
+      no-lower-passes : (v : ℕ) → v < supportRow s p k t m → supports? s p k t v ≡ false
+      no-lower-passes v l = first-lowest m (supports? s p k t) v (rw active at l)
+
+      is-active : Active (L .board) (ruleAt (L .board) p) k
+      is-active =
+          below-active (L .board) (ruleAt (L .board) p) k lk
+          (not-live (L .board) (callAt (ruleAt (L .board) p) k)
+          (λ g. true-false (T→ (cancelledOn? (L .board) (callAt (ruleAt (L .board) p) k)) g) (sym (column-cancelled p k lp lk) ∙ active)))
+
+      active-means : (some? m (supports? s p k t) ≡ true) ⊎ (some? m (supports? s p k t) ≡ false)
+          → SupportMeans (L .board) (ruleAt (L .board) p) k t (foundRow m (supportRow s p k t m))
+      active-means (inl e) =
+          let found = first-some m (supports? s p k t) (→T (some? m (supports? s p k t)) e) in
+          let w = first m (supports? s p k t) in
+          rw (active, lt-ltb w m (found .0)) (record {
+            supporting = supports-means p k t w is-active lp f lk (found .0) .0 (found .1);
+            lowest = λ v l h. absurd (true-false (supports v h) (no-lower-passes v (rw active l)));
+          })
+      active-means (inr e) =
+          rw (active, first-none m (supports? s p k t) e, le-ltb m m (omega arith))
+          (λ w h. absurd (true-false (supports w h) (none-passes m (supports? s p k t) e w (h .there))))
 
     support-means : SupportMeans (L .board) (ruleAt (L .board) p) k t (foundRow m (supportRow s p k t m))
-    support-means = go (true-or-false (some? m (supports? s p k t)))
+    support-means = go (true-or-false (columnCancelled? s p k))
       where
-        go : (some? m (supports? s p k t) ≡ true) ⊎ (some? m (supports? s p k t) ≡ false)
-            → SupportMeans (L .board) (ruleAt (L .board) p) k t (foundRow m (supportRow s p k t m))
+        go : (columnCancelled? s p k ≡ true) ⊎ (columnCancelled? s p k ≡ false) → SupportMeans (L .board) (ruleAt (L .board) p) k t (foundRow m (supportRow s p k t m))
         go (inl e) =
-            let found = first-some m (supports? s p k t) (→T (some? m (supports? s p k t)) e) in
-            let w = first m (supports? s p k t) in
-            rw (lt-ltb w m (found .0)) (record {
-              supporting = supports-means p k t w lp f lk (found .0) .0 (found .1);
-              lowest = λ v l h. absurd (true-false (supports v h) (no-lower-passes v l));
-            })
-        go (inr e) =
-            rw (first-none m (supports? s p k t) e, le-ltb m m (omega arith)) (λ w h. absurd (true-false (supports w h) (none-passes m (supports? s p k t) e w (h .there))))
+            rw (e, le-ltb m m (omega arith))
+            (λ w h.
+            live-not (L .board) (callAt (ruleAt (L .board) p) k) (active-live (L .board) (ruleAt (L .board) p) k (h .active))
+            (→T (cancelledOn? (L .board) (callAt (ruleAt (L .board) p) k)) (sym (column-cancelled p k lp lk) ∙ e)))
+        go (inr e) = active-means e (true-or-false (some? m (supports? s p k t)))
 
 -- AN ANSWER'S NUMBER is that of the refusal, and its values go with it
 slots-number : (n : ℕ) (bytes : List ℕ) (c : ℕ) → slotsNumber (slotsBy n bytes c) ≡ n
@@ -288,11 +325,12 @@ slots-values (suc n) bytes c = refl
 
 state-number : (n byte : ℕ) → stateNumber (stateBy n byte) ≡ n
 state-number (suc n) byte = refl
-state-number zero byte = go (eqb byte 255)
+state-number zero byte = go (eqb byte 255) (eqb byte cancelledByte)
   where
-    go : (b : Bool) → stateNumber (cond b state.Open (state.Struck byte)) ≡ 0
-    go true = refl
-    go false = refl
+    go : (b d : Bool) → stateNumber (cond b state.Open (cond d state.Cancelled (state.Struck byte))) ≡ 0
+    go true d = refl
+    go false true = refl
+    go false false = refl
 
 row-number : (n byte : ℕ) → rowNumber (rowBy n byte) ≡ n
 row-number (suc n) byte = refl
@@ -304,11 +342,12 @@ row-number zero byte = go (eqb byte 255)
 
 state-values : (n byte : ℕ) → stateValues (stateBy n byte) ≡ valuesAt n (byte ∷ [])
 state-values (suc n) byte = refl
-state-values zero byte = go (eqb byte 255) refl
+state-values zero byte = go (eqb byte 255) (eqb byte cancelledByte) refl refl
   where
-    go : (b : Bool) → eqb byte 255 ≡ b → stateValues (cond b state.Open (state.Struck byte)) ≡ byte ∷ []
-    go true e = ap (λ (x : ℕ). x ∷ []) (sym (eqb-true byte 255 e))
-    go false e = refl
+    go : (b d : Bool) → eqb byte 255 ≡ b → eqb byte cancelledByte ≡ d → stateValues (cond b state.Open (cond d state.Cancelled (state.Struck byte))) ≡ byte ∷ []
+    go true d e q = ap (λ (x : ℕ). x ∷ []) (sym (eqb-true byte 255 e))
+    go false true e q = ap (λ (x : ℕ). x ∷ []) (sym (eqb-true byte cancelledByte q))
+    go false false e q = refl
 
 row-values : (n byte : ℕ) → rowValues (rowBy n byte) ≡ valuesAt n (byte ∷ [])
 row-values (suc n) byte = refl
@@ -357,7 +396,11 @@ state-promise s c t =
             number = state-number (firstOf (slotChecks s c t)) (causeOf (s .slots) c t) ∙ e;
             values = state-values (firstOf (slotChecks s c t)) (causeOf (s .slots) c t) ∙ ap (λ (n : ℕ). valuesAt n (causeOf (s .slots) c t ∷ [])) e;
             means = λ z. subst (λ (n : ℕ). StateMeans (L .board) c t (stateBy n (causeOf (s .slots) c t))) (sym (e ∙ z))
-                (state-means (L .board) (causeOf (s .slots)) (killerOf (s .killers)) (rep .stored .recorded) c t (slot-on-board L shape s rep c t z));
+                (let lt = slot-there L shape s rep c t z in
+                let lc = slot-call L shape s rep c t z in
+                let most = shape .board .counts c lc .1 in
+                state-means (L .board) (causeOf (s .slots)) (killerOf (s .killers)) (rep .stored .recorded) c t lt
+                (cancelled-byte (L .board) (shape .board) (rep .stored) c t (omega (arith, shape .board .calls)) (omega arith) lt));
           };
     }
 
@@ -424,3 +467,25 @@ support-promise s p k t =
         subst (λ (n : ℕ). SupportMeans (L .board) (ruleAt (L .board) p) k t (supportBy n held (supportRow s p k t held))) (sym (support-checks L shape s rep p k t ∙ z))
         (subst (λ (m : ℕ). SupportMeans (L .board) (ruleAt (L .board) p) k t (foundRow m (supportRow s p k t m))) (sym (rows-held L shape s rep p))
         (support-means L shape s rep p k t (there .0) (there .1) (there .2)))
+
+-- OF A CANCELLED CALL (SCOPE 5.6) the mask is 0 with 0 ones,
+mask-none : (n : ℕ) (f : ℕ → Bool) → ((t : ℕ) → t < n → f t ≡ false) → maskOf n f ≡ 0
+mask-none zero f fails = refl
+mask-none (suc n) f fails = rw (mask-none n f (λ t h. fails t (omega arith)), fails n (omega arith)) refl
+
+pub cancelled-mask : (L : Ledger) → LedgerShape L → (s : State) → Represents L s → (c : ℕ) → Cancelled (L .board) c → slotsBy 0 (s .slots) c ≡ slots.Mask 0 0
+cancelled-mask L shape s rep c g =
+    ap (λ (m : ℕ). slots.Mask m (countBelow 32 (open? (s .slots) c))) (mask-none 32 (open? (s .slots) c) closed)
+    ∙ ap (λ (n : ℕ). slots.Mask 0 n) (count-none 32 (open? (s .slots) c) closed)
+  where
+    below : c < 32
+    below = omega (arith, shape .board .cancelled c g, shape .board .calls)
+
+    closed : (t : ℕ) → t < 32 → open? (s .slots) c t ≡ false
+    closed t lt =
+        ne-eqb (causeOf (s .slots) c t) 255
+        (λ e. let v = rep .stored .viable c t below lt .0 e in cancelled-off (L .board) (shape .board) (rep .stored) c t g (v .self .slots c t (v .has)))
+
+-- and no row supports a slot in its column
+pub cancelled-support : (B : Board) (r : Rule) (k t : ℕ) → Cancelled B (callAt r k) → NoSupport B r k t
+cancelled-support B r k t g w s = live-not B (callAt r k) (active-live B r k (s .active)) g

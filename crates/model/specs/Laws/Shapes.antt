@@ -2,7 +2,7 @@
 use mathlib.Core.Path.{_≡_, refl, sym, ap, _∙_}
 use mathlib.Core.Bool.{Bool, true, false, true≢false, not, _&&_, _||_, cond, and-eq-true-iff}
 use mathlib.Core.List.{List, [], _∷_, _++_}
-use mathlib.Core.Logic.{_≢_, _⊎_, inl, inr}
+use mathlib.Core.Logic.{_≢_, _⊎_, inl, inr, ⊎-elim}
 use mathlib.Core.Option.{Option, none, some}
 use Prim.Native.Nat.{ℕ, zero, suc, _<_, _≤_, _+_}
 use native.Mathlib.Omega.{arith}
@@ -10,7 +10,7 @@ use native.Mathlib.Nat.{eq-or-lt-of-le, le-of-suc-le-suc}
 use native.Mathlib.Decide.{ℕ-discrete}
 use lib.ListN.{length, getD, take, drop, set, replicate, length-set, length-take, length-append, List·getD-append}
 use lib.Seq.{getD-set-same, getD-set-other, getD-take, getD-append-seam, length-take-le}
-use lib.Dec.{eqb, ltb, leb}
+use lib.Dec.{eqb, ltb, leb, eqb→eq}
 use borrow.Author.Tests.{ltb-false, leb-false, eqb-true, eqb-false, eq-eqb, not-false}
 use Rattle.model.specs.declared.command.Head.{Head}
 use Rattle.model.specs.declared.command.Row.{Row}
@@ -19,13 +19,13 @@ use Rattle.model.specs.declared.command.Command.{Command}
 use Rattle.model.specs.declared.command.Command.the-variants as kind
 use Rattle.model.specs.declared.command.Read.{Read}
 use Rattle.model.specs.declared.command.Read.the-variants as found
-use Rattle.model.specs.Board.{Rule, Board, callAt, slotAt, InForce, GoodRule, Shape}
+use Rattle.model.specs.Board.{Rule, Board, callAt, slotAt, cancelledOn?, InForce, GoodRule, Shape}
 use Rattle.model.specs.Tests.{some?, every?, isNone}
 use Rattle.model.specs.Commands.{isKind, bodySize, commandAt, without, readAt, scopeOf, slotsOf}
-use Rattle.model.specs.Ledger.{NumberedRule, Ledger, LedgerShape, Member, bare, noneKept, fresh, keptUnder, keptOr, draftOr, lentConditions, kindConditions, formConditions, ownConditions, refusal, upToZero, withRule, effect, obey, step, run, lengths}
+use Rattle.model.specs.Ledger.{NumberedRule, Ledger, LedgerShape, Member, bare, noneKept, fresh, keptUnder, keptOr, draftOr, lentConditions, kindConditions, formConditions, ownConditions, refusal, upToZero, withRule, cancelCall, effect, obey, step, run, lengths}
 use Rattle.model.specs.Gaps.{ruleOfGap}
 use Rattle.model.specs.Laws.Gaps.{gap-good}
-use Rattle.model.specs.Laws.Tests.{or-false, none-passes, →every, T→, →T, none-some}
+use Rattle.model.specs.Laws.Tests.{or→, or-false, none-passes, →every, T→, →T, none-some}
 use Rattle.layout.specs.Sizes.{Lent, CommandLent, badLent?, badBuffers?, badTable?, killersLength, rowsLength, slotsLength, marksLength, recordsLength}
 use Rattle.tables.specs.Laws.Facts.{true-false}
 use Rattle.model.specs.Refusals.{firstOf, conditionOf}
@@ -69,7 +69,7 @@ pub bare-none : (ns : List ℕ) (p : ℕ) (r : Rule) → InForce (bare ns) p r �
 bare-none ns p r f = none-some (sym (none-there 64 p) ∙ f)
 
 pub bare-shape : (ns : List ℕ) → length ns ≤ 32 → ((c : ℕ) → c < length ns → (0 < getD ns c 0) × (getD ns c 0 ≤ 32)) → Shape (bare ns)
-bare-shape ns few each = record { calls = few; counts = each; numbers = refl; rules = λ p r f. absurd (bare-none ns p r f) }
+bare-shape ns few each = record { calls = few; counts = each; numbers = refl; rules = λ p r f. absurd (bare-none ns p r f); cancelled = λ c g. absurd g }
 
 -- a board of good shape with a good rule under a number, or none there
 pub shape-with : (B : Board) (p : ℕ) (o : Option Rule) → Shape B → p < 64 → ((r : Rule) → o ≡ some r → GoodRule (B .counts) r) → Shape (withRule B p o)
@@ -79,11 +79,23 @@ shape-with B p o shape lp good =
       counts = shape .counts;
       numbers = length-set (B .rules) p o ∙ shape .numbers;
       rules = λ q r f. go q r f (ℕ-discrete q p);
+      cancelled = shape .cancelled;
     }
   where
     go : (q : ℕ) (r : Rule) → getD (set (B .rules) p o) q none ≡ some r → Dec (q ≡ p) → GoodRule (B .counts) r
     go q r f (yes h) = good r (sym (getD-set-same (B .rules) p o none (omega (arith, shape .numbers))) ∙ (rw h at f))
     go q r f (no h) = shape .rules q r (sym (getD-set-other (B .rules) p q o none h) ∙ f)
+
+-- and with one of its calls cancelled
+pub shape-cancelled : (B : Board) → Shape B → (c : ℕ) → c < length (B .counts) → Shape (cancelCall B c)
+shape-cancelled B shape c there =
+    record {
+      calls = shape .calls;
+      counts = shape .counts;
+      numbers = shape .numbers;
+      rules = shape .rules;
+      cancelled = λ d g. ⊎-elim (λ e. rw (eqb→eq c d e) at there) (shape .cancelled d) (or→ (eqb c d) (cancelledOn? B d) g);
+    }
 
 -- what holds of each row and of one more holds of each with that one at the end
 snoc-all : (P : List ℕ → Type 0) (rows : List (List ℕ)) (x : List ℕ) → ((w : ℕ) → w < length rows → P (getD rows w [])) → P x
@@ -293,6 +305,15 @@ module _ (L : Ledger) (shape : LedgerShape L) where
             marks = λ other K k. let kept = shape .marks other K k in (kept .0, kept .1 ∙ sym (own .1));
           }
 
+  cancel-shape : (c : ℕ) (ns : List ℕ) → Allowed L (kind.Cancel c) ns → LedgerShape (effect L (kind.Cancel c) ns)
+  cancel-shape c ns clear =
+      record {
+        board = shape-cancelled (L .board) (shape .board) c (leb-false (length (L .board .counts)) c (clear refused.noCall));
+        draft = shape .draft;
+        names = shape .names;
+        marks = shape .marks;
+      }
+
   -- a command that none of its own conditions refuses
   pub effect-shape : (c : Command) (ns : List ℕ) → length ns ≤ 32 → firstOf (kindConditions L c ns) ≡ 0 → LedgerShape (effect L c ns)
   effect-shape kind.Board ns most e = board-shape ns most (none-holds (kindConditions L kind.Board ns) tt e)
@@ -303,6 +324,7 @@ module _ (L : Ledger) (shape : LedgerShape L) where
   effect-shape (kind.Gap f) ns most e = gap-shape f ns (none-holds (kindConditions L (kind.Gap f) ns) tt e)
   effect-shape (kind.Keep n) ns most e = keep-shape n ns (none-holds (kindConditions L (kind.Keep n) ns) tt e)
   effect-shape (kind.Back n) ns most e = back-shape n ns (none-holds (kindConditions L (kind.Back n) ns) tt e)
+  effect-shape (kind.Cancel c) ns most e = cancel-shape c ns (none-holds (kindConditions L (kind.Cancel c) ns) tt e)
 
 -- the counts beside what is read are never more than 32
 pub counts-most : (s : List ℕ) (at : ℕ) → length (readAt s at .counts) ≤ 32

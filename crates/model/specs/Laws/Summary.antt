@@ -10,7 +10,7 @@ use lib.ListN.{length, getD, length-replicate, getD-replicate, List·getD-eq-def
 use lib.Seq.{ext-getD}
 use lib.Dec.{ltb, ltb→lt}
 use Rattle.layout.specs.declared.summary.Summary.{Summary}
-use Rattle.model.specs.Board.{Rule, Board, callAt, Shape}
+use Rattle.model.specs.Board.{Rule, Board, callAt, Cancelled, slotsOn, OnBoard, Shape}
 use Rattle.model.specs.Tests.{countBelow}
 use Rattle.model.specs.Filter.{in?, openOf}
 use Rattle.model.specs.Ledger.{Ledger, bare}
@@ -18,6 +18,7 @@ use Rattle.model.specs.Report.{slotCount, open?, closed?}
 use Rattle.model.specs.Representation.{ruleOr, ruleAt, Represents}
 use Rattle.model.specs.Summary.{ruleOn?, recordOf, Current, openTotal, openSum}
 use Rattle.model.specs.Laws.Tests.{and→, not→, count-same, count-none, count-add, has→}
+use Rattle.model.specs.Laws.Theory.{on-count, on-live, live-not}
 use Rattle.model.specs.Laws.Filter.{found-viable}
 use Rattle.model.specs.Laws.Shapes.{shape-fresh}
 use Rattle.model.specs.Laws.Reports.{open-in, slots-same}
@@ -47,13 +48,24 @@ absent-zero B shape c le lc =
     simp (
       count-none 32 (in? (openOf B) c) (λ s ls. not→ (in? (openOf B) c s) (λ t. let v = found-viable B c s .0 t in off s (v .self .slots c s (v .has)))),
       count-none 32 (closed? B (openOf B) c)
-          (λ s ls. not→ (closed? B (openOf B) c s) (λ t. off s (ltb→lt s (getD (B .counts) c 0) (and→ (ltb s (getD (B .counts) c 0)) (not (in? (openOf B) c s)) t .0)))),
+          (λ s ls. not→ (closed? B (openOf B) c s) (λ t. off s (ltb→lt s (slotsOn B c) (and→ (ltb s (slotsOn B c)) (not (in? (openOf B) c s)) t .0)))),
       count-none 64 (ruleOn? B c)
           (λ p lp. not→ (ruleOn? B c p) (λ t. let u = has→ 255 (ruleAt B p .scope) c t in let call = u .2 in omega (arith, column-in B shape p (u .0) (u .1) .1))),
     )
   where
-    off : (s : ℕ) → s < getD (B .counts) c 0 → ⊥
-    off s h = omega (arith, List·getD-eq-default (B .counts) 0 le)
+    off : (s : ℕ) → OnBoard B c s → ⊥
+    off s on = omega (arith, on-count B c s on, List·getD-eq-default (B .counts) 0 le)
+
+-- A CANCELLED CALL has none that is open and none that is struck
+pub cancelled-zero : (B : Board) (c : ℕ) → Cancelled B c → (recordOf B c .«open» ≡ 0) × (recordOf B c .struck ≡ 0)
+cancelled-zero B c g = (
+  count-none 32 (in? (openOf B) c) (λ s ls. not→ (in? (openOf B) c s) (λ t. let v = found-viable B c s .0 t in off s (v .self .slots c s (v .has)))),
+  count-none 32 (closed? B (openOf B) c)
+      (λ s ls. not→ (closed? B (openOf B) c s) (λ t. off s (ltb→lt s (slotsOn B c) (and→ (ltb s (slotsOn B c)) (not (in? (openOf B) c s)) t .0)))),
+)
+  where
+    off : (s : ℕ) → OnBoard B c s → ⊥
+    off s on = live-not B c (on-live B c s on) g
 
 -- A TABLE THAT IS CURRENT IS THE ONLY ONE
 pub current-one : (B : Board) (t t′ : List Summary) → Current B t → Current B t′ → t ≡ t′

@@ -1,23 +1,54 @@
 -- WHAT FOLLOWS FROM THE DEFINITIONS ALONE. A grounded slot is in no self-supporting set, by induction; so the open slots are the union of all of them,
 -- there is no ring, and no full plan uses a struck slot. Assumes nothing.
 use mathlib.Core.Path.{_≡_, refl, sym, ap, _∙_}
-use mathlib.Core.Bool.{Bool, true, false}
+use mathlib.Core.Bool.{Bool, true, false, not, _&&_, cond}
 use mathlib.Core.Logic.{_↔_, _⊎_, inl, inr}
 use mathlib.Core.Option.{none}
 use Prim.Native.Nat.{ℕ, _<_, _≤_}
 use native.Mathlib.Omega.{arith}
 use native.Mathlib.Decide.{decLt}
 use lib.ListN.{length, getD, List·getD-eq-default}
-use lib.Dec.{T, ltb, ltb→lt, lt→ltb}
-use Rattle.model.specs.Board.{Rule, Board, callAt, slotAt, OnBoard, InForce, live?, Live, active?, Active, InScope, Holds, Supported, SelfSupporting, Passing, Viable, Alive, Dead, Same, AtLeast, FullPlan, Shape}
+use lib.Dec.{T, ltb, ltb→lt, lt→ltb, not-T, T-not}
+use Rattle.model.specs.Board.{Rule, Board, callAt, slotAt, cancelledOn?, Cancelled, live?, Live, slotsOn, OnBoard, InForce, active?, Active, InScope, Holds, Supported, SelfSupporting, Passing, Viable, Alive, Dead, Same, AtLeast, FullPlan, Shape}
 use Rattle.model.specs.Records.{Open, Struck, Caused, KillerIn, RingAt, Ring, NoRing, Escape, EscapeFromAll, Grounded, because, Recorded}
 use Rattle.model.specs.Laws.Tests.{T?, <?, none-some, and→, →and}
 use Rattle.tables.specs.Laws.Facts.{eq-or-ne, find-below, decide-both}
 
--- today every call takes part
-pub all-live : (B : Board) (c : ℕ) → Live B c
-unfolding live?
-all-live B c = tt
+-- A SLOT IS ON THE BOARD where it is below its call's count and the call is not cancelled
+pub on-live : (B : Board) (c s : ℕ) → OnBoard B c s → Live B c
+on-live B c s h = go (cancelledOn? B c) h
+  where
+    go : (b : Bool) → s < cond b 0 (getD (B .counts) c 0) → T (not b)
+    go true h = absurd (omega arith)
+    go false h = tt
+
+pub on-count : (B : Board) (c s : ℕ) → OnBoard B c s → s < getD (B .counts) c 0
+on-count B c s h = go (cancelledOn? B c) h
+  where
+    go : (b : Bool) → s < cond b 0 (getD (B .counts) c 0) → s < getD (B .counts) c 0
+    go true h = absurd (omega arith)
+    go false h = h
+
+pub live-on : (B : Board) (c s : ℕ) → Live B c → s < getD (B .counts) c 0 → OnBoard B c s
+live-on B c s l h = go (cancelledOn? B c) l
+  where
+    go : (b : Bool) → T (not b) → s < cond b 0 (getD (B .counts) c 0)
+    go true l = absurd l
+    go false l = h
+
+pub on-board : (B : Board) (c s : ℕ) → OnBoard B c s ↔ ((s < getD (B .counts) c 0) × Live B c)
+on-board B c s = (λ h. (on-count B c s h, on-live B c s h), λ u. live-on B c s (u .1) (u .0))
+
+-- a call is cancelled, or takes part
+pub live-not : (B : Board) (c : ℕ) → Live B c → Cancelled B c → ⊥
+live-not B c l g = T-not (cancelledOn? B c) l g
+
+pub not-live : (B : Board) (c : ℕ) → (Cancelled B c → ⊥) → Live B c
+not-live B c n = not-T (cancelledOn? B c) n
+
+-- where fewer calls are cancelled more take part
+pub live-along : (B B′ : Board) (c : ℕ) → (Cancelled B′ c → Cancelled B c) → Live B c → Live B′ c
+live-along B B′ c back l = not-live B′ c (λ g. live-not B c l (back g))
 
 -- LAWS OF THE ACTIVE COLUMNS. The rest of the theory goes by these
 pub active-below : (B : Board) (r : Rule) (k : ℕ) → Active B r k → k < length (r .scope)
@@ -35,6 +66,10 @@ below-active B r k h l = →and (ltb k (length (r .scope))) (live? B (callAt r k
 -- a column that is active on a board is active on one where its call takes part, for a rule with the same calls
 pub active-same : (B B′ : Board) (r r′ : Rule) (k : ℕ) → r .scope ≡ r′ .scope → (Live B (callAt r k) → Live B′ (callAt r′ k)) → Active B r k → Active B′ r′ k
 active-same B B′ r r′ k e to t = below-active B′ r′ k (rw e at (active-below B r k t)) (to (active-live B r k t))
+
+-- a rule on a call is on it by an active column, so the call takes part
+pub scope-live : (B : Board) (r : Rule) (c : ℕ) → InScope B r c → Live B c
+scope-live B r c o = rw (o .call) at (active-live B r (o .column) (o .active))
 
 -- two rules in force under one number are one
 pub one-rule : (B : Board) (p : ℕ) {r r′ : Rule} → InForce B p r → InForce B p r′ → r ≡ r′
@@ -123,22 +158,23 @@ grounded-escape B cause killer Z {c} {s} (because r f o k g) z =
         record { call = c; slot = s; member = z; outside = record { rule = r; force = f; out = λ w h hd. record { column = k w h hd; member = λ kz. n w h (hd, kz) } } }
 
 -- A FULL PLAN uses only viable slots (SCOPE 6.13)
-pub plan-viable : (B : Board) (plan : ℕ → ℕ) → Shape B → FullPlan B plan → (c : ℕ) → c < length (B .counts) → Viable B c (plan c)
-plan-viable B plan shape full c h = viable-of B Used (λ c s. decide-both (<? c (length (B .counts))) (eq-or-ne (plan c) s)) self c (plan c) (h, refl)
+pub plan-viable : (B : Board) (plan : ℕ → ℕ) → Shape B → FullPlan B plan → (c : ℕ) → c < length (B .counts) → Live B c → Viable B c (plan c)
+plan-viable B plan shape full c h l =
+    viable-of B Used (λ c s. decide-both (<? c (length (B .counts))) (decide-both (T? (live? B c)) (eq-or-ne (plan c) s))) self c (plan c) (h, (l, refl))
   where
     Used : ℕ → ℕ → Type 0
-    Used c s = (c < length (B .counts)) × (plan c ≡ s)
+    Used c s = (c < length (B .counts)) × (Live B c × (plan c ≡ s))
 
     self : SelfSupporting B Used
     self =
         record {
-          slots = λ c s u. rw (← u .1) (full .gives c (u .0));
-          support = λ c s u p r f o. let t = full .keeps p r f in
+          slots = λ c s u. rw (← u .1 .1) (full .gives c (u .0) (u .1 .0));
+          support = λ c s u p r f o. let t = full .keeps p r f (o .column) (o .active) in
               record {
                 row = t .0;
                 inside = t .1;
                 holds = record { column = o .column; active = o .active; call = o .call; slot = cc (t .2 (o .column) (o .active), ap plan (o .call)) };
-                within = λ k h. (shape .rules p r f .scope k (active-below B r k h), sym (t .2 k h));
+                within = λ k h. (shape .rules p r f .scope k (active-below B r k h), (active-live B r k h, sym (t .2 k h)));
               };
         }
 
@@ -154,7 +190,7 @@ module _ (B : Board) (cause killer : ℕ → ℕ → ℕ) (known : Recorded B ca
 
   pub open-viable : (c s : ℕ) → Open B cause c s ↔ Viable B c s
   open-viable c s = (
-    viable-of B (Open B cause) (λ c s. decide-both (<? s (getD (B .counts) c 0)) (eq-or-ne (cause c s) 255)) (known .self) c s,
+    viable-of B (Open B cause) (λ c s. decide-both (<? s (slotsOn B c)) (eq-or-ne (cause c s) 255)) (known .self) c s,
     λ v. largest (Passing (v .set)) (v .self) c s (v .has),
   )
 
@@ -195,53 +231,73 @@ module _ (B : Board) (cause killer : ℕ → ℕ → ℕ) (known : Recorded B ca
   escape-from-all Z struck c s z = grounded-escape B cause killer Z (known .sound .grounded c s (struck c s z)) z
 
   -- a full plan uses only open slots
-  pub plan-open : (plan : ℕ → ℕ) → Shape B → FullPlan B plan → (c : ℕ) → c < length (B .counts) → Open B cause c (plan c)
-  plan-open plan shape full c h = open-viable c (plan c) .1 (plan-viable B plan shape full c h)
+  pub plan-open : (plan : ℕ → ℕ) → Shape B → FullPlan B plan → (c : ℕ) → c < length (B .counts) → Live B c → Open B cause c (plan c)
+  plan-open plan shape full c h l = open-viable c (plan c) .1 (plan-viable B plan shape full c h l)
 
--- FEWER RULES, NO FEWER OPEN SLOTS (SCOPE 6.14)
-supported-same : (B B′ : Board) (A : ℕ → ℕ → Type 0) (r r′ : Rule) → Same r r′ → (c s : ℕ) → Supported B′ A r′ c s → Supported B A r c s
-supported-same B B′ A r r′ same c s u =
-    let b = same .back (u .row) (u .inside) in
-    let h = u .holds in
-    record {
-      row = b .0;
-      inside = b .1;
-      holds = record {
-        column = h .column;
-        active = active-same B′ B r′ r (h .column) (sym (same .scope)) (λ l. all-live B (callAt r (h .column))) (h .active);
-        call = rw (same .scope) (h .call);
-        slot = rw (← b .2) (h .slot);
-      };
-      within = λ k t. rw (same .scope, ← b .2) (u .within k (active-same B B′ r r′ k (same .scope) (λ l. all-live B′ (callAt r′ k)) t));
-    }
+-- FEWER RULES AND MORE CANCELLED CALLS, NO FEWER OPEN SLOTS on the calls that are left (SCOPE 6.14, 6.21)
+module _ (B B′ : Board) (more : AtLeast B B′) where
+  still-live : (c : ℕ) → Live B c → Live B′ c
+  still-live c = live-along B B′ c (more .cancelled c)
 
-on-same : (B B′ : Board) {r r′ : Rule} {c : ℕ} → Same r r′ → InScope B r c → InScope B′ r′ c
-on-same B B′ {r} {r′} same o =
-    record { column = o .column; active = active-same B B′ r r′ (o .column) (same .scope) (λ l. all-live B′ (callAt r′ (o .column))) (o .active); call = rw (same .scope) at (o .call) }
+  -- a set that supports itself on B′, less the slots of calls cancelled on B
+  Left : (ℕ → ℕ → Bool) → ℕ → ℕ → Bool
+  Left A c s = A c s && live? B c
 
-pub viable-mono : (B B′ : Board) → AtLeast B B′ → (c s : ℕ) → Viable B′ c s → Viable B c s
-viable-mono B B′ more c s v =
-    record {
-      set = v .set;
-      has = v .has;
-      self = record {
-        slots = λ c s a. rw (more .counts) (v .self .slots c s a);
-        support = λ c s a p r f o. let m = more .rules p r f in
-            supported-same B B′ (Passing (v .set)) r (m .rule) (m .same) c s (v .self .support c s a (m .number) (m .rule) (m .force) (on-same B B′ (m .same) o));
-      };
-    }
+  on-same : {r r′ : Rule} {c : ℕ} → Same r r′ → InScope B r c → InScope B′ r′ c
+  on-same {r} {r′} same o =
+      record {
+        column = o .column;
+        active = active-same B B′ r r′ (o .column) (same .scope) (λ l. rw (same .scope) at (still-live (callAt r (o .column)) l)) (o .active);
+        call = rw (same .scope) at (o .call);
+      }
 
--- A RULE WITHOUT ROWS ADMITS NOTHING (SCOPE 1.3): while it is in force no slot of its calls is viable, and there is no full plan
+  supported-same : (A : ℕ → ℕ → Bool) (r r′ : Rule) → Same r r′ → (c s : ℕ) → Live B c → Supported B′ (Passing A) r′ c s → Supported B (Passing (Left A)) r c s
+  unfolding Left
+  supported-same A r r′ same c s l u =
+      let b = same .back (u .row) (u .inside) in
+      let h = u .holds in
+      record {
+        row = b .0;
+        inside = b .1;
+        holds = record {
+          column = h .column;
+          active = active-same B′ B r′ r (h .column) (sym (same .scope)) (λ x. rw (same .scope, h .call) l) (h .active);
+          call = rw (same .scope) (h .call);
+          slot = rw (← b .2) (h .slot);
+        };
+        within = λ k t.
+            →and (A (callAt r k) (slotAt r (b .0) k)) (live? B (callAt r k))
+            (rw (same .scope, ← b .2) (u .within k (active-same B B′ r r′ k (same .scope) (λ l. rw (same .scope) at (still-live (callAt r k) l)) t)))
+            (active-live B r k t);
+      }
+
+  pub viable-mono : (c s : ℕ) → Live B c → Viable B′ c s → Viable B c s
+  unfolding Left
+  viable-mono c s l v =
+      record {
+        set = Left (v .set);
+        has = →and (v .set c s) (live? B c) (v .has) l;
+        self = record {
+          slots = λ c s a. let d = and→ (v .set c s) (live? B c) a in
+              live-on B c s (d .1) (rw (more .counts) (on-count B′ c s (v .self .slots c s (d .0))));
+          support = λ c s a p r f o.
+              let d = and→ (v .set c s) (live? B c) a in
+              let m = more .rules p r f in
+              supported-same (v .set) r (m .rule) (m .same) c s (d .1) (v .self .support c s (d .0) (m .number) (m .rule) (m .force) (on-same (m .same) o));
+        };
+      }
+
+-- A RULE WITHOUT ROWS ADMITS NOTHING (SCOPE 1.3): while it is in force no slot of its calls is viable, and where one of its columns is active there is no full plan
 module _ (B : Board) (p : ℕ) (r : Rule) (force : InForce B p r) (none-there : length (r .rows) ≡ 0) where
   pub no-row-closed : (c s : ℕ) → InScope B r c → Viable B c s → ⊥
   no-row-closed c s on v = omega (arith, v .self .support c s (v .has) p r force on .inside)
 
-  pub no-row-no-plan : (plan : ℕ → ℕ) → FullPlan B plan → ⊥
-  no-row-no-plan plan full = omega (arith, full .keeps p r force .1)
+  pub no-row-no-plan : (j : ℕ) → Active B r j → (plan : ℕ → ℕ) → FullPlan B plan → ⊥
+  no-row-no-plan j t plan full = omega (arith, full .keeps p r force j t .1)
 
 -- EVERY SLOT OF A CALL WITHOUT RULES IS OPEN (SCOPE 1.8)
 pub free-call : (B : Board) (c : ℕ) → ((p : ℕ) (r : Rule) → InForce B p r → InScope B r c → ⊥) → (s : ℕ) → OnBoard B c s → Viable B c s
-free-call B c free s on = viable-of B Own (λ d t. decide-both (eq-or-ne d c) (<? t (getD (B .counts) d 0))) self c s (refl, on)
+free-call B c free s on = viable-of B Own (λ d t. decide-both (eq-or-ne d c) (<? t (slotsOn B d))) self c s (refl, on)
   where
     Own : ℕ → ℕ → Type 0
     Own d t = (d ≡ c) × OnBoard B d t

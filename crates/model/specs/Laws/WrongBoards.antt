@@ -5,28 +5,28 @@ use mathlib.Core.Bool.{Bool, true, false, true≢false, not, _&&_}
 use mathlib.Core.List.{List, [], _∷_, map}
 use mathlib.Core.Logic.{_≢_, _⊎_, inl, inr}
 use mathlib.Core.Option.{Option, none, some}
-use Prim.Native.Nat.{ℕ, zero, suc, _+_, _<_}
+use Prim.Native.Nat.{ℕ, zero, suc, _+_, _≤_, _<_}
 use native.Mathlib.Omega.{arith}
 use lib.ListN.{length, getD}
-use lib.Dec.{T, lit<, T-not}
+use lib.Dec.{T, eqb, lit<, T-not}
 use borrow.Author.Tests.{ne-eqb}
 use Rattle.model.specs.declared.answer.Report.{Report}
 use Rattle.model.specs.declared.answer.Answer.{Answer}
 use Rattle.model.specs.declared.answer.Answer.the-variants as answer
 use Rattle.model.specs.declared.answer.OpenSlots.{OpenSlots}
 use Rattle.model.specs.declared.answer.Support.the-variants as support
-use Rattle.model.specs.Board.{Rule, Board, callAt, slotAt, OnBoard, live?, active?}
+use Rattle.model.specs.Board.{Rule, Board, callAt, slotAt, OnBoard, active?}
 use Rattle.model.specs.Records.{Struck, Grounded, because}
-use Rattle.model.specs.Tests.{countBelow}
+use Rattle.model.specs.Tests.{countBelow, has}
 use Rattle.model.specs.Filter.{in?, inScope?, all?, openOf}
 use Rattle.model.specs.Commands.{readAt}
 use Rattle.model.specs.Ledger.{LedgerShape, refusal, step, member, lengths}
-use Rattle.model.specs.Report.{open?}
+use Rattle.model.specs.Report.{slotCount, open?, closed?, struckBeside}
 use Rattle.model.specs.Representation.{Represents, ruleOr, ruleAt}
 use Rattle.model.specs.Summary.{ruleOn?, recordOf, Current}
 use Rattle.model.specs.Promise.{Answered, ReportsOf, valuesAt, reportValues}
 use Rattle.model.specs.Questions.{maskOf, callConditions, slotsValues, SlotsPromise, supportConditions, SupportPromise}
-use Rattle.model.specs.Samples.{Outcome, Sample, Right, ledgerBefore, ledgerLast, p1, p2, p3, p4Retract, p5, p6}
+use Rattle.model.specs.Samples.{Outcome, Sample, Right, ledgerBefore, ledgerLast, p1, p2, p3, p4Retract, p5, p6, c1}
 use Rattle.model.specs.Laws.Tests.{→and}
 use Rattle.model.specs.Laws.Theory.{one-rule, numbered}
 use Rattle.model.specs.Laws.Filter.{found-viable, within→, →onCall, all→}
@@ -34,7 +34,7 @@ use Rattle.model.specs.Laws.Lists.{IsOf, is-lengths, promise-keeps, runs
 use Rattle.model.specs.Laws.Answers.{accepted-by}
 use Rattle.model.specs.Laws.Samples.{samples-right}
 use Rattle.model.specs.Laws.Masks.{mask-same}
-use Rattle.model.specs.Laws.Reports.{open-in, struck-between, reopened-between}
+use Rattle.model.specs.Laws.Reports.{open-in, struck-beside, struck-between, reopened-between}
 use Rattle.layout.specs.Places.{causeOf, killerOf}
 use Rattle.layout.specs.Memory.{Whole, lentOf, lentWith}
 use Rattle.layout.specs.declared.summary.Summary.{Summary}
@@ -160,6 +160,9 @@ right-p4-retract = samples-right .1 .1 .1 .1 .0
 right-p5 : Right p5
 right-p5 = samples-right .1 .1 .1 .1 .1 .1 .0
 
+right-c1 : Right c1
+right-c1 = samples-right .1 .1 .1 .1 .1 .1 .1 .1 .1 .1 .1 .1 .1 .1 .0
+
 module _ (s : Whole) (given : Answer) (s′ : Whole) where
   -- A BOARD THAT REFUSES ALL COMMANDS
   pub not-refusing : Last p1 s given s′ → (n : ℕ) → given ≡ answer.Refused n → ⊥
@@ -178,7 +181,7 @@ module _ (s : Whole) (given : Answer) (s′ : Whole) where
 
   -- ONE THAT ALWAYS SHOWS ONE MASK: after P5 the two calls differ
   pub not-one-mask : Last p5 s given s′ → (shown : OpenSlots) → SlotsPromise (s′ .marked .state) 0 shown → SlotsPromise (s′ .marked .state) 1 shown → ⊥
-  unfolding active? live?
+  unfolding active?
   not-one-mask last shown m m′ =
       let L = ledgerLast p5 in
       let shape = shape-after p5 s given s′ last in
@@ -198,17 +201,17 @@ module _ (s : Whole) (given : Answer) (s′ : Whole) where
 
   -- ONE THAT IGNORES LIFTS
   pub not-ignoring-lifts : Last p6 s given s′ → s′ .marked .state .slots ≡ s .marked .state .slots → ⊥
-  unfolding active? live?
+  unfolding active?
   not-ignoring-lifts last = changes p6 s given s′ last 0 0 (lit< tt) (lit< tt) tt
 
   -- ONE THAT STRIKES AT THE FIRST PUT AND IDLES LATER
   pub not-idling : Last p2 s given s′ → s′ .marked .state .slots ≡ s .marked .state .slots → ⊥
-  unfolding active? live?
+  unfolding active?
   not-idling last = changes p2 s given s′ last 0 1 (lit< tt) (lit< tt) tt
 
   -- ONE THAT NAMES ONE CAUSE FOR ALL
   pub not-one-cause : Last p2 s given s′ → (n : ℕ) → ((c t : ℕ) → Struck (ledgerLast p2 .board) (causeOf (s′ .marked .state .slots)) c t → causeOf (s′ .marked .state .slots) c t ≡ n) → ⊥
-  unfolding active? live?
+  unfolding active?
   not-one-cause last n one =
       let h = strikes p2 s given s′ last right-p2 0 2 (lit< tt) (lit< tt) (lit< tt) tt in
       let h′ = strikes p2 s given s′ last right-p2 2 1 (lit< tt) (lit< tt) (lit< tt) tt in
@@ -227,17 +230,34 @@ module _ (s : Whole) (given : Answer) (s′ : Whole) where
   pub not-inventing-reopened : Last p3 s given s′ → (r : Report) → given ≡ answer.Accepted r → r .reopened ≢ 4 → ⊥
   not-inventing-reopened last r e wrong =
       wrong (told p3 s given s′ last (λ r. r .reopened) 4
-      (λ r w. w .reopened ∙ reopened-between (ledgerBefore p3) (ledgerLast p3) (s .marked .state) (s′ .marked .state) (is p3 s given s′ last .1 .state) (after p3 s given s′ last) refl
+      (λ r w. w .reopened ∙ reopened-between (ledgerBefore p3) (ledgerLast p3) (s .marked .state) (s′ .marked .state) (is p3 s given s′ last .1 .state) (after p3 s given s′ last)
       ∙ ap (λ (o : Outcome). o .reopened) (right-p3 .outcome))
       right-p3 refl r e)
 
+  -- ONE THAT COUNTS THE CANCELLED CALL'S OWN SLOTS IN T: before C1 three slots of other calls were struck
+  pub not-own-touched : Last c1 s given s′ → (r : Report) → given ≡ answer.Accepted r → 3 < r .touched → ⊥
+  unfolding active?
+  not-own-touched last r e more =
+      let d = accepted-is c1 s given s′ last right-c1 refl in
+      let q : answered c1 s given s′ last .report ≡ r = cc in
+      let w = answered c1 s given s′ last .reported (refusal-is c1 s given s′ last right-c1) in
+      below (r .touched) (struckBeside 1 (s .marked .state .slots)) 3 more (rw q at (w .own .most))
+      (struck-beside (ledgerBefore c1) (s .marked .state) (is c1 s given s′ last .1 .state) 1 ∙ three)
+    where
+      below : (t b n : ℕ) → n < t → t ≤ b → b ≡ n → ⊥
+      below t b n more most e = omega arith
+
+      three : slotCount (λ d t. not (eqb d 1) && closed? (ledgerBefore c1 .board) (openOf (ledgerBefore c1 .board)) d t) ≡ 3
+      three = refl
+
   -- ONE THAT SAYS "NONE" WITH A LIVING ROW THERE: row 0 of P1's rule holds slot 0 in column 0
   pub not-none-with-support : Last p1 s given s′ → SupportPromise (s′ .marked .state) 0 0 0 support.Nothing → ⊥
-  unfolding active? live?
+  unfolding active?
   not-none-with-support last m =
       let L = ledgerLast p1 in
       m .answered L (shape-after p1 s given s′ last) (after p1 s given s′ last) .means (ap (λ (l : Lent). firstOf (supportConditions L l 0 0 0)) (lent-after p1 s given s′ last)) 0
       (record {
+        active = tt;
         there = lit< tt;
         living = λ k n. found-viable (L .board) (callAt (ruleAt (L .board) 0) k) (slotAt (ruleAt (L .board) 0) 0 k) .0 (within→ (L .board) (ruleAt (L .board) 0) (openOf (L .board)) 0 tt k n);
         has = refl;
@@ -257,17 +277,24 @@ module _ (s : Whole) (given : Answer) (s′ : Whole) where
 
   -- WRONG TABLES (SCOPE 2.9). ONE OF ZEROS after P1, which leaves open slots
   pub not-table-of-zeros : Last p1 s given s′ → s′ .table ≡ noRecords → ⊥
-  unfolding active? live?
+  unfolding active?
   not-table-of-zeros last zeros =
       let z : _≡_ {A = ℕ} 0 2 = ap (λ (l : List Summary). getD l 0 noSummary .«open») (sym zeros) ∙ ap (λ (r : Summary). r .«open») (figures p1 s given s′ last 0 (lit< tt)) in
       omega arith
 
   -- THE TABLE OF THE BOARD BEFORE: P1's put strikes slots of call 0
   pub not-table-before : Last p1 s given s′ → Current (ledgerBefore p1 .board) (s′ .table) → ⊥
-  unfolding active? live?
+  unfolding active?
   not-table-before last old =
       let z : _≡_ {A = ℕ} 3 2 = ap (λ (r : Summary). r .«open») (sym (old .each 0 (lit< tt)) ∙ figures p1 s given s′ last 0 (lit< tt)) in
       omega arith
+
+  -- of numbers alone: beside the boards of the samples they would take too many steps
+  past : (c : ℕ) → suc (suc (suc c)) < 3 → ⊥
+  past c h = omega arith
+
+  past-both : (c : ℕ) → T (has (0 ∷ 1 ∷ []) (suc (suc c))) → ⊥
+  past-both c on = rw (ne-eqb 0 (suc (suc c)) (λ e. omega arith), ne-eqb 1 (suc (suc c)) (λ e. omega arith)) at on
 
   -- ONE WHOSE RULES ARE COUNTED BY COLUMNS, those of all rules in force: after P2 no call of the board has so many rules on it
   pub not-rules-by-column : Last p2 s given s′ → (c : ℕ) → c < length (ledgerLast p2 .board .counts)
@@ -278,7 +305,7 @@ module _ (s : Whole) (given : Answer) (s′ : Whole) where
       go zero h e = omega (arith, e)
       go (suc zero) h e = omega (arith, e)
       go (suc (suc zero)) h e = omega (arith, e)
-      go (suc (suc (suc c))) h e = omega arith
+      go (suc (suc (suc c))) h e = past c h
 
   -- ONE THAT STILL COUNTS THE LIFTED RULE, P3's rule 0, on one of its calls
   pub not-lift-counted : Last p3 s given s′ → (c : ℕ) → T (ruleOn? (ledgerBefore p3 .board) c 0)
@@ -289,4 +316,4 @@ module _ (s : Whole) (given : Answer) (s′ : Whole) where
   not-lift-counted last (suc zero) on same =
       let z : _≡_ {A = ℕ} 1 2 = sym (ap (λ (r : Summary). r .rules) (figures p3 s given s′ last 1 (lit< tt))) ∙ same in
       omega arith
-  not-lift-counted last (suc (suc c)) on same = rw (ne-eqb 0 (suc (suc c)) (λ e. omega arith), ne-eqb 1 (suc (suc c)) (λ e. omega arith)) at on
+  not-lift-counted last (suc (suc c)) on same = past-both c on

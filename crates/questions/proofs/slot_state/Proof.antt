@@ -1,4 +1,4 @@
--- The slot's refusal is the answer's; where there is none, the code's test of the slot's byte is the definition's.
+-- The slot's refusal is the answer's; where there is none, the code's tests of the slot's byte are the definition's.
 use borrow.Author.Needs.{needs}
 use borrow.Author.Tests.{eq-eqb, ne-eqb}
 use Rattle.questions.proofs.slot_state.Statement.{statement}
@@ -34,9 +34,17 @@ returns-2 c =
 
 returns-3 : tie.Need-returns-3
 returns-3 c =
-    let asked = c .before .before .before in
+    let asked = c .before .before .before .before in
     let start = asked .before .before .before .before .before .before in
-    rw (ne-eqb _ _ (c .if2 .left)) at (state-given (state start) (start .args .call) (start .args .slot) (asked .slot-refusal .ensures) (c .before .before .if1 .left) (c .before .byte-at .ensures))
+    rw (ne-eqb _ _ (c .before .if2 .left), eq-eqb _ _ (c .if3 .taken)) at
+    (state-given (state start) (start .args .call) (start .args .slot) (asked .slot-refusal .ensures) (c .before .before .before .if1 .left) (c .before .before .byte-at .ensures))
+
+returns-4 : tie.Need-returns-4
+returns-4 c =
+    let asked = c .before .before .before .before in
+    let start = asked .before .before .before .before .before .before in
+    rw (ne-eqb _ _ (c .before .if2 .left), ne-eqb _ _ (c .if3 .left)) at
+    (state-given (state start) (start .args .call) (start .args .slot) (asked .slot-refusal .ensures) (c .before .before .before .if1 .left) (c .before .before .byte-at .ensures))
 
 pub slot-state-spec : {M : Type 1} → statement M
 slot-state-spec =
@@ -48,4 +56,5 @@ slot-state-spec =
     add-byte-at
     byte-at-requires
     returns-2
-    returns-3)
+    returns-3
+    returns-4)

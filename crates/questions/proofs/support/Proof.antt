@@ -1,10 +1,11 @@
--- The refusal of the checks is the answer's; where there is none, the search may look at every row of the rule, and what it finds is the definition's.
+-- The refusal of the checks is the answer's. Where there is none, the code's test of the column's call is the definition's; in an active column the search may look at
+-- every row of the rule, and what it finds is the definition's.
 use borrow.Author.Needs.{needs}
 use borrow.Author.Tests.{lt-ltb, le-ltb}
 use Rattle.questions.proofs.support.Statement.{statement}
 use Rattle.questions.proofs.support.Tie as tie
 use Rattle.layout.specs.Memory.{State, stateOf}
-use Rattle.questions.specs.Laws.Answers.{support-refused, support-given}
+use Rattle.questions.specs.Laws.Answers.{support-refused, support-given, support-cancelled}
 use Rattle.questions.specs.Laws.Bounds.{support-bounds}
 
 abbrev state : tie.Start → State
@@ -18,39 +19,67 @@ returns c =
     let start = c .before .before .before .before .before .before .before .before .before .before .before .before in
     support-refused (state start) (start .args .rule) (start .args .column) (start .args .slot) (c .before .support-refusal .ensures) (c .if1 .taken)
 
+slice-aggregate-byte-at : tie.Need-slice-aggregate-byte-at
+slice-aggregate-byte-at c = search needs
+
+mul-byte-at : tie.Need-mul-byte-at
+mul-byte-at c = search needs
+
+add-byte-at : tie.Need-add-byte-at
+add-byte-at c = search needs
+
+byte-at-requires : tie.Need-byte-at-requires
+byte-at-requires c κs = search needs
+
+is-cancelled-requires : tie.Need-is-cancelled-requires
+is-cancelled-requires c κs = search needs
+
+returns-2 : tie.Need-returns-2
+returns-2 c =
+    let call = c .before .before in
+    let clear = call .before .before in
+    let asked = clear .before in
+    let start = asked .before .before .before .before .before .before .before .before .before .before .before in
+    support-cancelled (state start) (start .args .rule) (start .args .column) (start .args .slot) (asked .support-refusal .ensures) (clear .if1 .left)
+    (rw (c .before .is-cancelled .ensures, call .byte-at .ensures) at (c .if2 .taken))
+
 rows-of-requires : tie.Need-rows-of-requires
 rows-of-requires c κs = search needs
 
 supporting-row-requires : tie.Need-supporting-row-requires
 supporting-row-requires c κs =
-    let clear = c .before .before in
+    let clear = c .before .before .before .before .before .before in
     let asked = clear .before in
     let start = asked .before .before .before .before .before .before .before .before .before .before .before in
     rw (c .rows-of .ensures)
     (support-bounds (state start) (start .args .rule) (start .args .column) (start .args .slot) (asked .support-refusal .ensures) (clear .if1 .left))
 
-cast-t23 : tie.Need-cast-t23
-cast-t23 c = search needs
-
-returns-2 : tie.Need-returns-2
-returns-2 c =
-    let held = c .before .before in
-    let clear = held .before .before in
-    let asked = clear .before in
-    let start = asked .before .before .before .before .before .before .before .before .before .before .before in
-    rw (lt-ltb _ _ (c .if2 .taken)) at
-    (support-given (state start) (start .args .rule) (start .args .column) (start .args .slot) (asked .support-refusal .ensures) (clear .if1 .left) (held .rows-of .ensures)
-    (c .before .supporting-row .ensures))
+cast-t29 : tie.Need-cast-t29
+cast-t29 c = search needs
 
 returns-3 : tie.Need-returns-3
 returns-3 c =
     let held = c .before .before in
-    let clear = held .before .before in
+    let active = held .before .before in
+    let call = active .before .before in
+    let clear = call .before .before in
     let asked = clear .before in
     let start = asked .before .before .before .before .before .before .before .before .before .before .before in
-    rw (le-ltb _ _ (c .if2 .left)) at
-    (support-given (state start) (start .args .rule) (start .args .column) (start .args .slot) (asked .support-refusal .ensures) (clear .if1 .left) (held .rows-of .ensures)
-    (c .before .supporting-row .ensures))
+    rw (lt-ltb _ _ (c .if3 .taken)) at
+    (support-given (state start) (start .args .rule) (start .args .column) (start .args .slot) (asked .support-refusal .ensures) (clear .if1 .left)
+    (rw (active .before .is-cancelled .ensures, call .byte-at .ensures) at (active .if2 .left)) (held .rows-of .ensures) (c .before .supporting-row .ensures))
+
+returns-4 : tie.Need-returns-4
+returns-4 c =
+    let held = c .before .before in
+    let active = held .before .before in
+    let call = active .before .before in
+    let clear = call .before .before in
+    let asked = clear .before in
+    let start = asked .before .before .before .before .before .before .before .before .before .before .before in
+    rw (le-ltb _ _ (c .if3 .left)) at
+    (support-given (state start) (start .args .rule) (start .args .column) (start .args .slot) (asked .support-refusal .ensures) (clear .if1 .left)
+    (rw (active .before .is-cancelled .ensures, call .byte-at .ensures) at (active .if2 .left)) (held .rows-of .ensures) (c .before .supporting-row .ensures))
 
 pub support-spec : {M : Type 1} → statement M
 support-spec =
@@ -58,8 +87,14 @@ support-spec =
     (tie.spec
     support-refusal-requires
     returns
+    slice-aggregate-byte-at
+    mul-byte-at
+    add-byte-at
+    byte-at-requires
+    is-cancelled-requires
+    returns-2
     rows-of-requires
     supporting-row-requires
-    cast-t23
-    returns-2
-    returns-3)
+    cast-t29
+    returns-3
+    returns-4)

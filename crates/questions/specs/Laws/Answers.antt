@@ -1,22 +1,24 @@
 -- WHAT A QUESTION'S FUNCTION SHOWS of its answer, to meet its promise: where the number n of its checks is not 0 the answer is that refusal, and where n is
 -- 0 the answer is read off the bytes. Assumes nothing.
 use mathlib.Core.Path.{_≡_, refl, sym, ap, subst, _∙_}
-use mathlib.Core.Bool.{cond}
+use mathlib.Core.Bool.{Bool, true, false, cond}
 use mathlib.Core.List.{[]}
 use mathlib.Core.Logic.{_≢_}
 use Prim.Native.Nat.{ℕ, zero, suc, _+_, _*_}
+use native.Mathlib.Omega.{arith}
 use lib.ListN.{take, drop}
 use lib.Dec.{eqb}
 use lib.Count.{ones}
+use borrow.Author.Tests.{le-ltb}
 use Rattle.model.specs.declared.answer.OpenSlots.the-variants as slots
 use Rattle.model.specs.declared.answer.SlotState.the-variants as state
 use Rattle.model.specs.declared.answer.RowState.the-variants as row
 use Rattle.model.specs.declared.answer.Support.the-variants as support
 use Rattle.model.specs.Tests.{first}
 use Rattle.model.specs.Report.{open?}
-use Rattle.model.specs.Questions.{callChecks, slotChecks, rowChecks, supportChecks, maskOf, slotsBy, SlotsPromise, stateBy, StatePromise, rowBy, RowPromise, bytesBy, RowBytesPromise, supports?, foundRow, supportBy, SupportPromise}
+use Rattle.model.specs.Questions.{callChecks, slotChecks, rowChecks, supportChecks, maskOf, slotsBy, SlotsPromise, stateBy, StatePromise, rowBy, RowPromise, bytesBy, RowBytesPromise, supports?, columnCancelled?, supportRow, foundRow, supportBy, SupportPromise}
 use Rattle.model.specs.Laws.Questions.{slots-promise, state-promise, row-promise, row-bytes-promise, support-promise}
-use Rattle.layout.specs.Places.{causeOf, killerOf, rowsOf}
+use Rattle.layout.specs.Places.{causeOf, killerOf, rowsOf, cancelledByte}
 use Rattle.layout.specs.Memory.{State}
 use Rattle.questions.specs.Laws.Mask.{ones-mask}
 use Rattle.model.specs.Refusals.{firstOf}
@@ -41,7 +43,7 @@ module _ (s : State) {n : ℕ} where
   state-refused c t e r = rw (refused-by state.Refused (λ n. stateBy n (causeOf (s .slots) c t)) (λ n. refl) e r) (state-promise s c t)
 
   pub state-given : (c t : ℕ) {byte : ℕ} → n ≡ firstOf (slotChecks s c t) → n ≡ 0 → byte ≡ causeOf (s .slots) c t
-      → StatePromise s c t (cond (eqb byte 255) state.Open (state.Struck byte))
+      → StatePromise s c t (cond (eqb byte 255) state.Open (cond (eqb byte cancelledByte) state.Cancelled (state.Struck byte)))
   state-given c t e z h = rw h (subst (λ (n : ℕ). StatePromise s c t (stateBy n (causeOf (s .slots) c t))) (sym e ∙ z) (state-promise s c t))
 
   pub row-refused : (p w : ℕ) → n ≡ firstOf (rowChecks s p w) → n ≢ 0 → RowPromise s p w (row.Refused n)
@@ -60,10 +62,22 @@ module _ (s : State) {n : ℕ} where
   pub support-refused : (p k t : ℕ) → n ≡ firstOf (supportChecks s p k t) → n ≢ 0 → SupportPromise s p k t (support.Refused n)
   support-refused p k t e r =
       let m = rowsOf (s .value .heads .lengths) p in
-      rw (refused-by support.Refused (λ n. supportBy n m (first m (supports? s p k t))) (λ n. refl) e r) (support-promise s p k t)
+      rw (refused-by support.Refused (λ n. supportBy n m (supportRow s p k t m)) (λ n. refl) e r) (support-promise s p k t)
 
-  pub support-given : (p k t : ℕ) {m w : ℕ} → n ≡ firstOf (supportChecks s p k t) → n ≡ 0 → m ≡ rowsOf (s .value .heads .lengths) p → w ≡ first m (supports? s p k t)
-      → SupportPromise s p k t (foundRow m w)
-  support-given p k t e z h g =
+  -- a row is looked for, unless the column's call is cancelled
+  support-found : (p k t : ℕ) {m : ℕ} → n ≡ firstOf (supportChecks s p k t) → n ≡ 0 → m ≡ rowsOf (s .value .heads .lengths) p
+      → SupportPromise s p k t (foundRow m (supportRow s p k t m))
+  support-found p k t e z h =
       let m = rowsOf (s .value .heads .lengths) p in
-      rw (g, h) (subst (λ (n : ℕ). SupportPromise s p k t (supportBy n m (first m (supports? s p k t)))) (sym e ∙ z) (support-promise s p k t))
+      rw h (subst (λ (n : ℕ). SupportPromise s p k t (supportBy n m (supportRow s p k t m))) (sym e ∙ z) (support-promise s p k t))
+
+  pub support-given : (p k t : ℕ) {m w : ℕ} → n ≡ firstOf (supportChecks s p k t) → n ≡ 0 → columnCancelled? s p k ≡ false → m ≡ rowsOf (s .value .heads .lengths) p
+      → w ≡ first m (supports? s p k t) → SupportPromise s p k t (foundRow m w)
+  support-given p k t {m} e z active h g =
+      rw g (subst (λ (b : Bool). SupportPromise s p k t (foundRow m (cond b m (first m (supports? s p k t))))) active (support-found p k t e z h))
+
+  pub support-cancelled : (p k t : ℕ) → n ≡ firstOf (supportChecks s p k t) → n ≡ 0 → columnCancelled? s p k ≡ true → SupportPromise s p k t support.Nothing
+  support-cancelled p k t e z off =
+      let m = rowsOf (s .value .heads .lengths) p in
+      rw (le-ltb m m (omega arith)) at
+      (subst (λ (b : Bool). SupportPromise s p k t (foundRow m (cond b m (first m (supports? s p k t))))) off (support-found p k t e z refl))

@@ -91,7 +91,7 @@ advance-shape L s at shape = go (readAt s at .read) (readAt s at .counts) (count
 -- what was obeyed on a state of some ledger has a short line
 pub held-short : {before after : MarkedState} {c : Command} {ns : List ℕ} {given : Answer} → Held before → Obeys before c ns given after → ShortAnswer given
 held-short {before} {after} {c} {ns} {given} h o =
-    answer-short (h .ledger) (h .shape) before after c ns (h .represents) given (o .promise .obeyed (h .ledger) (h .shape) (h .represents))
+    answer-short (h .ledger) before after c ns (h .represents) given (o .promise .obeyed (h .ledger) (h .shape) (h .represents))
 
 -- THE CODE'S ROUND, where the code has d for what stands at the place
 pub advanced-same : {d x : Decoded} {end : ℕ} {p r : Progress} {before after : MarkedState} {old new : List ℕ} → d ≡ x
@@ -106,7 +106,7 @@ module _ (d : Decoded) (end : ℕ) (p : Progress) (before : MarkedState) (old : 
       record {
         read = rw e next;
         short = line .short;
-        line = λ L shape rep. rw e (append-same (answer-line L shape before after c (d .counts) rep given (obeys .promise .obeyed L shape rep)) (line .appended));
+        line = λ L shape rep. rw e (append-same (answer-line L before after c (d .counts) rep given (obeys .promise .obeyed L shape rep)) (line .appended));
         represents = λ L shape rep. rw e (obeys .promise .obeyed L shape rep .represents);
       }
 

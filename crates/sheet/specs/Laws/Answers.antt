@@ -1,36 +1,29 @@
 -- THE LINE OF AN ANSWER IS THE DEFINITION'S, and it is short: on a state that is a ledger's the report's S and R are those of the boards before and after.
 -- Assumes nothing.
 use mathlib.Core.Path.{_≡_, refl, sym, ap, subst, _∙_}
-use mathlib.Core.Bool.{Bool, true, false, true≢false, cond}
+use mathlib.Core.Bool.{Bool, true, false, cond}
 use mathlib.Core.List.{List}
-use mathlib.Core.Option.{Option, none, some}
 use Prim.Native.Nat.{ℕ, zero, suc, _+_, _≤_}
 use native.Mathlib.Omega.{arith}
 use Rattle.model.specs.declared.answer.Report.{Report}
 use Rattle.model.specs.declared.answer.Answer.{Answer}
 use Rattle.model.specs.declared.answer.Answer.the-variants as answer
 use Rattle.model.specs.declared.command.Command.{Command}
-use Rattle.model.specs.declared.command.Command.the-variants as kind
 use Rattle.model.specs.declared.command.Read.the-variants as found
-use Rattle.model.specs.Board.{Board}
-use Rattle.model.specs.Tests.{isNone}
-use Rattle.model.specs.Filter.{openOf}
 use Rattle.model.specs.Commands.{kindOf}
-use Rattle.model.specs.Ledger.{Ledger, LedgerShape, keptUnder, keptOr, kindConditions, effect, obey}
-use Rattle.model.specs.Report.{struckBetween, reopenedBetween, reopenedOf, changesSlots?, struckBy, reopenedBy, Reports}
+use Rattle.model.specs.Ledger.{Ledger, kindConditions, effect, obey}
+use Rattle.model.specs.Report.{struckBetween, reopenedBetween, changesSlots?, struckBy, reopenedBy, Reports}
 use Rattle.model.specs.Representation.{Represents}
 use Rattle.model.specs.Marks.{RepresentsMarked}
 use Rattle.model.specs.Promise.{numberOf, valuesOf, valuesAt, reportValues, ObeyedMarked}
 use Rattle.model.specs.Sheet.{acceptedLine, decisionLine}
 use Rattle.model.specs.Laws.Answers.{refused-by, accepted-by}
 use Rattle.model.specs.Laws.Counts.{changes-few}
-use Rattle.model.specs.Laws.Refusals.{none-holds}
 use Rattle.model.specs.Laws.Reports.{struck-between, reopened-between}
 use Rattle.sheet.specs.Line.{answerLine, ShortAnswer}
 use Rattle.layout.specs.Memory.{State, MarkedState}
 use Rattle.layout.specs.Sizes.{slotsLength}
 use Rattle.model.specs.Refusals.{firstOf}
-use Rattle.model.specs.Numbers as refused
 
 -- S AND R OF A REPORT: together at most 1,024
 few-or-none : (b : Bool) (before after : List ℕ) → cond b (struckBetween before after) 0 + cond b (reopenedBetween before after) 0 ≤ slotsLength
@@ -41,32 +34,14 @@ reported-short : (before after : State) (q : Report) (c : Command) → Reports c
 reported-short before after q c r =
     record { together = rw (r .struck, r .reopened) (few-or-none (changesSlots? c) (before .slots) (after .slots)) }
 
--- and those of the boards before and after: a kind that changes slots leaves the counts alone, and so does a board that is brought back
-counts-stay : (L : Ledger) → LedgerShape L → (c : Command) (ns : List ℕ) → firstOf (kindConditions L c ns) ≡ 0 → changesSlots? c ≡ true
-    → L .board .counts ≡ effect L c ns .board .counts
-counts-stay L shape kind.Board ns z e = absurd (true≢false (sym e))
-counts-stay L shape (kind.Head h) ns z e = absurd (true≢false (sym e))
-counts-stay L shape (kind.Row w) ns z e = absurd (true≢false (sym e))
-counts-stay L shape kind.Post ns z e = refl
-counts-stay L shape (kind.Retract n) ns z e = refl
-counts-stay L shape (kind.Gap f) ns z e = absurd (true≢false (sym e))
-counts-stay L shape (kind.Keep n) ns z e = absurd (true≢false (sym e))
-counts-stay L shape (kind.Back n) ns z e = go (keptUnder L n) refl (none-holds (kindConditions L (kind.Back n) ns) tt z refused.nothingKept)
-  where
-    go : (o : Option Board) → keptUnder L n ≡ o → isNone o ≡ false → L .board .counts ≡ keptOr o .counts
-    go none k i = absurd (true≢false i)
-    go (some B) k i = sym (shape .marks n B k .1)
-
-module _ (L : Ledger) (shape : LedgerShape L) (s s′ : State) (ns : List ℕ) (rep : Represents L s) (q : Report) where
-  reported-same : (c : Command) → firstOf (kindConditions L c ns) ≡ 0 → Represents (effect L c ns) s′ → Reports c s s′ q
+-- and those of the boards before and after
+module _ (L : Ledger) (s s′ : State) (ns : List ℕ) (rep : Represents L s) (q : Report) where
+  reported-same : (c : Command) → Represents (effect L c ns) s′ → Reports c s s′ q
       → (q .struck ≡ struckBy c (L .board) (effect L c ns .board)) × (q .reopened ≡ reopenedBy c (L .board) (effect L c ns .board))
-  reported-same c z rep′ r =
-      (r .struck ∙ ap (λ (n : ℕ). cond (changesSlots? c) n 0) (struck-between L (effect L c ns) s s′ rep rep′), r .reopened ∙ go (changesSlots? c) (counts-stay L shape c ns z))
-    where
-      go : (b : Bool) → (b ≡ true → L .board .counts ≡ effect L c ns .board .counts)
-          → cond b (reopenedBetween (s .slots) (s′ .slots)) 0 ≡ cond b (reopenedOf (effect L c ns .board) (openOf (L .board)) (openOf (effect L c ns .board))) 0
-      go true kept = reopened-between L (effect L c ns) s s′ rep rep′ (kept refl)
-      go false kept = refl
+  reported-same c rep′ r = (
+    r .struck ∙ ap (λ (n : ℕ). cond (changesSlots? c) n 0) (struck-between L (effect L c ns) s s′ rep rep′),
+    r .reopened ∙ ap (λ (n : ℕ). cond (changesSlots? c) n 0) (reopened-between L (effect L c ns) s s′ rep rep′),
+  )
 
 -- AN ANSWER, from its number and the report
 abbrev answerBy : ℕ → Report → Answer
@@ -77,7 +52,7 @@ answered-by : (n : ℕ) (given : Answer) (q : Report) → numberOf given ≡ n �
 answered-by zero given q e v = accepted-by given q v
 answered-by (suc n) given q e v = refused-by given n e
 
-module _ (L : Ledger) (shape : LedgerShape L) (m m′ : MarkedState) (c : Command) (ns : List ℕ) (rep : RepresentsMarked L m) (given : Answer)
+module _ (L : Ledger) (m m′ : MarkedState) (c : Command) (ns : List ℕ) (rep : RepresentsMarked L m) (given : Answer)
     (o : ObeyedMarked L m c ns given m′) where
   abbrev refusal : ℕ
   refusal = firstOf (kindConditions L c ns)
@@ -94,7 +69,7 @@ module _ (L : Ledger) (shape : LedgerShape L) (m m′ : MarkedState) (c : Comman
       go : (n : ℕ) → refusal ≡ n → (n ≡ 0 → Reports c (m .state) (m′ .state) (o .report)) → RepresentsMarked (next n) m′
           → answerLine c (answerBy n (o .report)) ≡ decisionLine n c (L .board) (next n .board)
       go zero z reported rep′ =
-          let same = reported-same L shape (m .state) (m′ .state) ns (rep .state) (o .report) c z (rep′ .state) (reported refl) in
+          let same = reported-same L (m .state) (m′ .state) ns (rep .state) (o .report) c (rep′ .state) (reported refl) in
           ap (λ (n : ℕ). acceptedLine (kindOf c) n (o .report .reopened)) (same .0)
           ∙ ap (λ (n : ℕ). acceptedLine (kindOf c) (struckBy c (L .board) (effect L c ns .board)) n) (same .1)
       go (suc n) z reported rep′ = refl

@@ -44,6 +44,7 @@ kind-digit (kind.Retract n) = omega arith
 kind-digit (kind.Gap f) = omega arith
 kind-digit (kind.Keep n) = omega arith
 kind-digit (kind.Back n) = omega arith
+kind-digit (kind.Cancel c) = omega arith
 
 module _ (c : Command) {given : Answer} {q : Report} {kind k : ℕ} (is : given ≡ answer.Accepted q) (short : ShortAnswer given) (wide : Wide kind k) (same : kind ≡ kindOf c) where
   accepted-short : ShortAnswer (answer.Accepted q)

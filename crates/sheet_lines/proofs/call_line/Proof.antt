@@ -11,8 +11,8 @@ write-start-requires c κs =
     let s = c .before .before .before in
     (room-first (room-parts (slot-parts (s .args .slots .now) (s .args .c)) (s .pre .0)), omega arith)
 
-open-slots-requires : tie.Need-open-slots-requires
-open-slots-requires c κs =
+call-slots-requires : tie.Need-call-slots-requires
+call-slots-requires c κs =
     let x = c .before .before .before in
     let s = x .before .before .before .before in
     let room = room-parts (slot-parts (s .args .slots .now) (s .args .c)) (s .pre .0) in
@@ -24,7 +24,7 @@ write-byte-requires c κs =
     let x = y .before .before .before .before in
     let s = x .before .before .before .before in
     let room = room-parts (slot-parts (s .args .slots .now) (s .args .c)) (s .pre .0) in
-    room-first (room-rest (room-rest room (x .write-start .ensures)) (y .open-slots .ensures))
+    room-first (room-rest (room-rest room (x .write-start .ensures)) (y .call-slots .ensures))
 
 same-length : tie.Need-same-length
 same-length c = search needs
@@ -34,9 +34,9 @@ returns c =
     let b = c .before .before in
     let y = b .before .before .before .before in
     let x = y .before .before .before .before in
-    append-same (slot-parts _ _ .same) (append-more (x .write-start .ensures) (append-more (y .open-slots .ensures) (b .write-byte .ensures)))
+    append-same (slot-parts _ _ .same) (append-more (x .write-start .ensures) (append-more (y .call-slots .ensures) (b .write-byte .ensures)))
 
 pub call-line-spec : {M : Type 1} → statement M
 call-line-spec =
     tie.close
-    (tie.spec write-start-requires open-slots-requires write-byte-requires same-length returns)
+    (tie.spec write-start-requires call-slots-requires write-byte-requires same-length returns)

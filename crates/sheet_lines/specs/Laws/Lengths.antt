@@ -1,22 +1,24 @@
 -- How long the lines are. Assumes nothing.
 use mathlib.Core.Path.{_≡_, refl}
 use mathlib.Core.Bool.{Bool, true, false, cond}
-use mathlib.Core.List.{List, [], _∷_}
+use mathlib.Core.List.{List, [], _∷_, _++_}
 use mathlib.Core.Logic.{⊎-elim}
 use Prim.Native.Nat.{ℕ, _+_, _*_, _/_, _%_, _≤_, _<_}
 use native.Mathlib.Omega.{arith}
 use lib.ListN.{length, length-append}
-use lib.Dec.{leb}
+use lib.Dec.{eqb, leb}
 use borrow.Author.Tests.{lt-leb}
 use Rattle.model.specs.Tests.{upFrom, keepOnly}
 use Rattle.model.specs.Report.{open?}
 use Rattle.model.specs.Sheet.{decimal, spaced, line, acceptedLine, refusedLine, totalLine}
 use Rattle.sheet_lines.specs.Joined.{joined}
 use Rattle.sheet_lines.specs.Digits.{digitIf}
-use Rattle.sheet_lines.specs.Calls.{openNumbers, slotLine}
+use Rattle.sheet_lines.specs.Calls.{openNumbers, callSlots, slotLine}
+use Rattle.sheet_lines.specs.Lines.{start}
 use Rattle.sheet_lines.specs.Laws.Digits.{decimal-parts}
 use Rattle.sheet_lines.specs.Laws.Joined.{joined-most}
 use Rattle.sheet_lines.specs.Lengths.{reaches, callLineMost, decimalEnd, lineMost, totalLineMost, boardLinesMost}
+use Rattle.layout.specs.Places.{causeOf, cancelledByte}
 use Rattle.layout.specs.Sizes.{slotsLength}
 use Rattle.tables.specs.Laws.Facts.{lt-or-le}
 
@@ -108,11 +110,26 @@ numbers-most : (slots : List ℕ) (c : ℕ) → length (spaced (openNumbers slot
 unfolding openNumbers
 numbers-most slots c = keep-shorter (open? slots c) (upFrom 0 32)
 
+slots-most : (slots : List ℕ) (c : ℕ) → length (callSlots slots c) ≤ 86
+unfolding callSlots
+slots-most slots c = go (eqb (causeOf slots c 0) cancelledByte)
+  where
+    go : (b : Bool) → length (cond b (32 ∷ 45 ∷ []) (spaced (openNumbers slots c))) ≤ 86
+    go true = omega arith
+    go false = numbers-most slots c
+
 slot-line-most : (slots : List ℕ) (c : ℕ) → c < 32 → length (slotLine slots c) ≤ callLineMost
 unfolding slotLine
 slot-line-most slots c h =
-    let numbers = openNumbers slots c in
-    omega (arith, line-length 99 (c ∷ numbers), spaced-length c numbers, two-digits c (omega arith), numbers-most slots c)
+    let behind = callSlots slots c in
+    omega (
+      arith,
+      length-append (start 99 c) (behind ++ (10 ∷ [])),
+      length-append behind (10 ∷ []),
+      spaced-length c [],
+      two-digits c (omega arith),
+      slots-most slots c,
+    )
 
 pub call-lines-most : (slots : List ℕ) (n : ℕ) → n ≤ 32 → length (joined (slotLine slots) n) ≤ callLineMost * n
 call-lines-most slots n h = joined-most (slotLine slots) callLineMost n (λ c lc. slot-line-most slots c (omega arith))

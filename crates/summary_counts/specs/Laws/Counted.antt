@@ -1,7 +1,7 @@
 -- WHAT IS COUNTED FROM THE BYTES IS THE BOARD'S: on a state that is a ledger's, the counts of the slot bytes and of the rule heads are the figures of the definition,
 -- whose open slots are the viable ones (model Laws.Filter, found-viable), and whose rules have one column at most on a call. Assumes nothing.
 use mathlib.Core.Path.{_≡_, refl, sym, ap, ap₂, _∙_}
-use mathlib.Core.Bool.{Bool, cond}
+use mathlib.Core.Bool.{Bool, true, false, cond}
 use mathlib.Core.List.{List}
 use mathlib.Core.Logic.{_⊎_, inl, inr, ⊎-elim}
 use Prim.Native.Nat.{ℕ, zero, suc, _+_, _-_, _*_, _/_, _%_, _<_, _≤_}
@@ -10,7 +10,7 @@ use lib.ListN.{length, getD, List·getD-eq-default}
 use lib.Dec.{T, eqb, ltb, eqb→eq, ltb→lt, lt→ltb}
 use borrow.Author.Tests.{le-leb, lt-leb}
 use Rattle.layout.specs.declared.summary.Summary.{Summary}
-use Rattle.model.specs.Board.{callAt}
+use Rattle.model.specs.Board.{callAt, cancelledOn?, slotsOn}
 use Rattle.model.specs.Tests.{some?, countBelow}
 use Rattle.model.specs.Filter.{in?, openOf}
 use Rattle.model.specs.Ledger.{Ledger, LedgerShape}
@@ -20,6 +20,7 @@ use Rattle.model.specs.Summary.{ruleOn?, recordOf, Current}
 use Rattle.model.specs.Laws.Tests.{and→, →and, some→, →some, →eqb, same-test, count-same, count-bound, count-once, count-rest, count-row, has→, →has}
 use Rattle.model.specs.Laws.Filter.{found-viable}
 use Rattle.model.specs.Laws.Reports.{open-in}
+use Rattle.model.specs.Laws.Cancelled.{first-held}
 use Rattle.model.specs.Laws.Heads.{no-call}
 use Rattle.model.specs.Laws.Summary.{column-in, calls-differ, absent-zero}
 use Rattle.tables.specs.Laws.Facts.{lt-or-le}
@@ -27,7 +28,7 @@ use Rattle.layout.specs.Places.{callOf}
 use Rattle.layout.specs.Memory.{State}
 use Rattle.layout.specs.Summary.{noSummary}
 use Rattle.layout.specs.Sizes.{recordsLength}
-use Rattle.summary_counts.specs.Counted.{figuresOf, columnOn?, columnsOn, countedRecord, Counted}
+use Rattle.summary_counts.specs.Counted.{slotsLeft, figuresOf, columnOn?, columnsOn, countedRecord, Counted}
 
 -- records with the same figures
 figures-same : (o s r o′ s′ r′ : ℕ) → o ≡ o′ → s ≡ s′ → r ≡ r′
@@ -101,21 +102,33 @@ module _ (L : Ledger) (s : State) (shape : LedgerShape L) (rep : Represents L s)
   opened-held : (c : ℕ) → c < recordsLength → countBelow 32 (open? (s .slots) c) ≡ countBelow 32 (in? (openOf (L .board)) c)
   opened-held c lc = count-same 32 (open? (s .slots) c) (in? (openOf (L .board)) c) (λ t lt. open-in L s rep c t lc lt)
 
-  -- what is not open of a call's slots is struck
-  struck-held : (c : ℕ) → c < recordsLength → getD (s .value .heads .counts) c 0 - countBelow 32 (open? (s .slots) c) ≡ countBelow 32 (closed? (L .board) (openOf (L .board)) c)
-  struck-held c lc =
-      left (getD (s .value .heads .counts) c 0) (countBelow 32 (open? (s .slots) c)) (getD (L .board .counts) c 0) (countBelow 32 (in? (openOf (L .board)) c))
-      (countBelow 32 (closed? (L .board) (openOf (L .board)) c))
-      (rep .stored .headed .counts c lc) (opened-held c lc)
-      (count-rest 32 (getD (L .board .counts) c 0) (in? (openOf (L .board)) c) (few (lt-or-le c (length (L .board .counts))))
-      (λ t h. let v = found-viable (L .board) c t .0 h in v .self .slots c t (v .has)))
+  -- the bytes leave a call the slots that it has on the board
+  left-held : (c : ℕ) → c < recordsLength → slotsLeft (s .slots) c (getD (s .value .heads .counts) c 0) ≡ slotsOn (L .board) c
+  left-held c lc = rw (first-held (L .board) (shape .board) (rep .stored) c lc, rep .stored .headed .counts c lc) refl
+
+  slots-few : (c : ℕ) → slotsOn (L .board) c ≤ 32
+  slots-few c = kept (cancelledOn? (L .board) c) (few (lt-or-le c (length (L .board .counts))))
     where
-      left : (a o n i m : ℕ) → a ≡ n → o ≡ i → m + i ≡ n → a - o ≡ m
-      left a o n i m ea eo e = omega arith
+      kept : (b : Bool) → getD (L .board .counts) c 0 ≤ 32 → cond b 0 (getD (L .board .counts) c 0) ≤ 32
+      kept true h = omega arith
+      kept false h = h
 
       few : (c < length (L .board .counts)) ⊎ (length (L .board .counts) ≤ c) → getD (L .board .counts) c 0 ≤ 32
       few (inl lt) = shape .board .counts c lt .1
       few (inr le) = omega (arith, List·getD-eq-default (L .board .counts) 0 le)
+
+  -- what is not open of these slots is struck
+  struck-held : (c : ℕ) → c < recordsLength
+      → slotsLeft (s .slots) c (getD (s .value .heads .counts) c 0) - countBelow 32 (open? (s .slots) c) ≡ countBelow 32 (closed? (L .board) (openOf (L .board)) c)
+  struck-held c lc =
+      left (slotsLeft (s .slots) c (getD (s .value .heads .counts) c 0)) (countBelow 32 (open? (s .slots) c)) (slotsOn (L .board) c) (countBelow 32 (in? (openOf (L .board)) c))
+      (countBelow 32 (closed? (L .board) (openOf (L .board)) c))
+      (left-held c lc) (opened-held c lc)
+      (count-rest 32 (slotsOn (L .board) c) (in? (openOf (L .board)) c) (slots-few c)
+      (λ t h. let v = found-viable (L .board) c t .0 h in v .self .slots c t (v .has)))
+    where
+      left : (a o n i m : ℕ) → a ≡ n → o ≡ i → m + i ≡ n → a - o ≡ m
+      left a o n i m ea eo e = omega arith
 
   counted-is : (c : ℕ) → c < recordsLength → countedRecord (s .value .heads) (s .slots) c ≡ recordOf (L .board) c
   counted-is c lc =
@@ -124,7 +137,7 @@ module _ (L : Ledger) (s : State) (shape : LedgerShape L) (rep : Represents L s)
       ∙ ⊎-elim
       (λ lt.
       rw (lt-leb (length (L .board .counts)) c lt)
-      (figures-same (countBelow 32 (open? (s .slots) c)) (getD (s .value .heads .counts) c 0 - countBelow 32 (open? (s .slots) c)) (columnsOn (s .value .heads .arity) (s .value .heads .scope) 256 c % 256)
+      (figures-same (countBelow 32 (open? (s .slots) c)) (slotsLeft (s .slots) c (getD (s .value .heads .counts) c 0) - countBelow 32 (open? (s .slots) c)) (columnsOn (s .value .heads .arity) (s .value .heads .scope) 256 c % 256)
       (countBelow 32 (in? (openOf (L .board)) c)) (countBelow 32 (closed? (L .board) (openOf (L .board)) c)) (countBelow 64 (ruleOn? (L .board) c))
       (opened-held c lc) (struck-held c lc) (rules-held c)))
       (λ le. rw (le-leb (length (L .board .counts)) c le) (sym (absent-zero (L .board) (shape .board) c le lc)))

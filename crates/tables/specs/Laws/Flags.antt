@@ -13,6 +13,7 @@ use lib.ListN.{length, getD, set, length-set, replicate, length-replicate, getD-
 use lib.Seq.{getD-set-same, getD-set-other, ext-getD}
 use Rattle.tables.specs.Count.{bit, count}
 use Rattle.tables.specs.Masks.{bitOf, Has, flagsOf, allFlags}
+use Rattle.tables.specs.Laws.Count.{count-append}
 use Rattle.tables.specs.Laws.Facts.{eq-or-ne, lt-or-le, true-false}
 use Rattle.tables.specs.Laws.Masks.{bit-zero, has-some}
 
@@ -137,3 +138,13 @@ count-flags (suc n) m h =
     bit-of zero l = refl
     bit-of (suc zero) l = refl
     bit-of (suc (suc x)) l = absurd (omega arith)
+
+-- where one mask of several is replaced, its flags are taken from the count and those of the new one are added
+pub count-all : (f : Bool → Bool) (n v : ℕ) (ms : List ℕ) (c : ℕ) → c < length ms
+    → count f (allFlags n (set ms c v)) + count f (flagsOf n (getD ms c 0)) ≡ count f (allFlags n ms) + count f (flagsOf n v)
+unfolding allFlags
+count-all f n v [] c l = absurd (omega arith)
+count-all f n v (m ∷ ms) zero l = omega (arith, count-append f (flagsOf n m) (allFlags n ms), count-append f (flagsOf n v) (allFlags n ms))
+count-all f n v (m ∷ ms) (suc c) l =
+    omega
+    (arith, count-append f (flagsOf n m) (allFlags n ms), count-append f (flagsOf n m) (allFlags n (set ms c v)), count-all f n v ms c (omega arith))

@@ -29,31 +29,41 @@ call-off-board-requires c κs = search needs
 or-refuse-requires-4 : tie.Need-or-refuse-requires-4
 or-refuse-requires-4 c κs = search needs
 
-call-twice-requires : tie.Need-call-twice-requires
-call-twice-requires c κs = search needs
+call-cancelled-requires : tie.Need-call-cancelled-requires
+call-cancelled-requires c κs = search needs
 
 or-refuse-requires-5 : tie.Need-or-refuse-requires-5
 or-refuse-requires-5 c κs = search needs
 
-bad-spare-requires : tie.Need-bad-spare-requires
-bad-spare-requires c κs = search needs
+call-twice-requires : tie.Need-call-twice-requires
+call-twice-requires c κs = search needs
 
 or-refuse-requires-6 : tie.Need-or-refuse-requires-6
 or-refuse-requires-6 c κs = search needs
 
+bad-spare-requires : tie.Need-bad-spare-requires
+bad-spare-requires c κs = search needs
+
+or-refuse-requires-7 : tie.Need-or-refuse-requires-7
+or-refuse-requires-7 c κs = search needs
+
 returns : tie.Need-returns
 returns c =
     let once = c .before .before .before in
-    let on = once .before .before .before in
+    let live = once .before .before .before in
+    let on = live .before .before .before in
     let arity = on .before .before .before in
     let number = arity .before .before in
     let board = number .before .before in
     let capped = board .before .before in
+    let start = capped .before .before in
     rw (
-      c .or-refuse6 .ensures,
+      c .or-refuse7 .ensures,
       c .before .bad-spare .ensures,
-      once .or-refuse5 .ensures,
+      once .or-refuse6 .ensures,
       once .before .call-twice .ensures,
+      live .or-refuse5 .ensures,
+      live .before .call-cancelled .ensures,
       on .or-refuse4 .ensures,
       on .before .call-off-board .ensures,
       arity .or-refuse3 .ensures,
@@ -62,7 +72,7 @@ returns c =
       board .or-refuse .ensures,
       capped .cap .ensures,
     )
-    (chain-first (headChecks (capped .before .args .counts .now) (capped .before .args .head)) tt)
+    (chain-first (headChecks (start .args .counts .now) (start .args .slots .now) (start .args .head)) tt)
 
 pub check-head-spec : {M : Type 1} → statement M
 check-head-spec =
@@ -76,8 +86,10 @@ check-head-spec =
     or-refuse-requires-3
     call-off-board-requires
     or-refuse-requires-4
-    call-twice-requires
+    call-cancelled-requires
     or-refuse-requires-5
-    bad-spare-requires
+    call-twice-requires
     or-refuse-requires-6
+    bad-spare-requires
+    or-refuse-requires-7
     returns)

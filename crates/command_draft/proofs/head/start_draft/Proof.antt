@@ -12,7 +12,7 @@ outcome-of-requires : tie.Need-outcome-of-requires
 outcome-of-requires c κs = search needs
 
 returns : tie.Need-returns
-returns c = rw (c .outcome-of .ensures) (redraft-promise (head-right _ _ (c .before .redraft .ensures)))
+returns c = rw (c .outcome-of .ensures) (redraft-promise (head-right _ _ _ (c .before .redraft .ensures)))
 
 pub start-draft-spec : {M : Type 1} → statement M
 start-draft-spec = tie.close (tie.spec redraft-requires outcome-of-requires returns)

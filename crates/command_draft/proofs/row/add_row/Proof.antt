@@ -12,7 +12,7 @@ outcome-of-requires : tie.Need-outcome-of-requires
 outcome-of-requires c κs = search needs
 
 returns : tie.Need-returns
-returns c = rw (c .outcome-of .ensures) (redraft-promise (row-right _ _ (c .before .redraft .ensures)))
+returns c slots = rw (c .outcome-of .ensures) (redraft-promise (row-right _ slots _ (c .before .redraft .ensures)))
 
 pub add-row-spec : {M : Type 1} → statement M
 add-row-spec = tie.close (tie.spec redraft-requires outcome-of-requires returns)

@@ -26,27 +26,36 @@ one-off-board-requires c κs = search needs
 or-refuse-requires-4 : tie.Need-or-refuse-requires-4
 or-refuse-requires-4 c κs = search needs
 
+one-cancelled-requires : tie.Need-one-cancelled-requires
+one-cancelled-requires c κs = search needs
+
 or-refuse-requires-5 : tie.Need-or-refuse-requires-5
 or-refuse-requires-5 c κs = search needs
-
-bad-gap-requires : tie.Need-bad-gap-requires
-bad-gap-requires c κs = search needs
 
 or-refuse-requires-6 : tie.Need-or-refuse-requires-6
 or-refuse-requires-6 c κs = search needs
 
+bad-gap-requires : tie.Need-bad-gap-requires
+bad-gap-requires c κs = search needs
+
+or-refuse-requires-7 : tie.Need-or-refuse-requires-7
+or-refuse-requires-7 c κs = search needs
+
 returns : tie.Need-returns
 returns c =
     let once = c .before .before in
-    let on = once .before .before in
+    let live = once .before .before in
+    let on = live .before .before in
     let form = on .before .before in
     let number = form .before .before in
     let board = number .before .before in
-    let start = board .before .before in
+    let start = board .before .before .before in
     rw (
-      c .or-refuse6 .ensures,
+      c .or-refuse7 .ensures,
       c .before .bad-gap .ensures,
-      once .or-refuse5 .ensures,
+      once .or-refuse6 .ensures,
+      live .or-refuse5 .ensures,
+      live .before .one-cancelled .ensures,
       on .or-refuse4 .ensures,
       on .before .one-off-board .ensures,
       form .or-refuse3 .ensures,
@@ -54,7 +63,7 @@ returns c =
       number .or-refuse2 .ensures,
       board .or-refuse .ensures,
     )
-    (chain-first (fieldChecks (start .args .counts .now) (start .args .f)) tt)
+    (chain-first (fieldChecks (start .args .counts .now) (start .args .slots .now) (start .args .f)) tt)
 
 pub check-fields-spec : {M : Type 1} → statement M
 check-fields-spec =
@@ -67,7 +76,9 @@ check-fields-spec =
     or-refuse-requires-3
     one-off-board-requires
     or-refuse-requires-4
+    one-cancelled-requires
     or-refuse-requires-5
-    bad-gap-requires
     or-refuse-requires-6
+    bad-gap-requires
+    or-refuse-requires-7
     returns)

@@ -12,7 +12,7 @@ outcome-of-requires : tie.Need-outcome-of-requires
 outcome-of-requires c κs = search needs
 
 returns : tie.Need-returns
-returns c = rw (c .outcome-of .ensures) (redraft-promise (gap-right _ _ (c .before .redraft .ensures)))
+returns c = rw (c .outcome-of .ensures) (redraft-promise (gap-right _ _ _ (c .before .redraft .ensures)))
 
 pub draft-gap-spec : {M : Type 1} → statement M
 draft-gap-spec = tie.close (tie.spec redraft-requires outcome-of-requires returns)

@@ -10,8 +10,11 @@ open-count-requires c κs = search needs
 rest-requires : tie.Need-rest-requires
 rest-requires c κs = search needs
 
+slots-left-requires : tie.Need-slots-left-requires
+slots-left-requires c κs = search needs
+
 returns : tie.Need-returns
-returns c = rw (c .rest .ensures, c .before .open-count .ensures) refl
+returns c = rw (c .rest .ensures, c .before .slots-left .ensures, c .before .before .open-count .ensures) refl
 
 pub figures-spec : {M : Type 1} → statement M
-figures-spec = tie.close (tie.spec open-count-requires rest-requires returns)
+figures-spec = tie.close (tie.spec open-count-requires slots-left-requires rest-requires returns)

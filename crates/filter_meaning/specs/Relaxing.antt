@@ -1,7 +1,7 @@
--- THE TOUCHED SLOTS ON A BOARD: they are closed for the retraction, and their reopening over the bytes is the model's.
+-- THE VISITED SLOTS OF A RELAXATION, on a board.
 use mathlib.Core.List.{List}
 use mathlib.Core.Bool.{Bool}
-use Prim.Native.Nat.{ℕ, _+_, _*_}
+use Prim.Native.Nat.{ℕ}
 use Rattle.filter_propagate.specs.Queue.{IsFlagged}
 use Rattle.layout.specs.Places.{slotPlace}
 

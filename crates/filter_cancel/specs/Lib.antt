@@ -1,0 +1,3 @@
+pub mod Done
+pub mod Stored
+pub mod Laws
