@@ -1,5 +1,6 @@
 // The answers as C structs: a number, 0 where there is an answer, and the answer's values.
 use board::Replayed;
+use layout::places::CANCELLED;
 use model::answer::Answer;
 use model::answer::OpenSlots;
 use model::answer::Outcome;
@@ -121,7 +122,7 @@ pub fn of_slot_state(answer: SlotState) -> StateReply
         SlotState::Struck(cause) => StateReply { number: 0, cause },
         SlotState::Cancelled => StateReply {
             number: 0,
-            cause: 253,
+            cause: CANCELLED,
         },
         SlotState::Refused(number) => StateReply { number, cause: 254 },
     }

@@ -1,4 +1,4 @@
-// Relaxation over the lent bytes: from a seed of visited slots, the slots touched by a retraction are found, reopened and counted, and
+// Relaxation over the lent bytes: from a seed of visited slots, the slots touched by a retraction or a cancellation are found, reopened and counted, and
 // the rows that they killed live again. All of it is safe and ends on any contents of the buffers; what it means on a board is
 // for the crates above.
 pub mod visit; // slots join the visited

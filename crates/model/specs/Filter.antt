@@ -12,7 +12,7 @@ use Rattle.model.specs.Tests.{some?, every?, upFrom, has, keepOnly}
 abbrev pub in? : List (List ℕ) → ℕ → ℕ → Bool
 in? left c s = has (getD left c []) s
 
--- Board.antt's OnCall, Holds, Within and Supported as tests
+-- Board.antt's InScope, Holds, Within and Supported as tests
 abbrev pub inScope? : Board → Rule → ℕ → Bool
 inScope? B r c = some? (length (r .scope)) λ k. active? B r k && eqb (callAt r k) c
 

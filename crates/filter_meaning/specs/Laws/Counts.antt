@@ -1,4 +1,4 @@
--- The counts of the report, which go by call and slot, are those of the tables, which go along the bytes; and how open slots become more or fewer. Assumes nothing.
+-- The counts of the report, which go by call and slot, are those of the tables, which go along the bytes; and how many slots a relaxation reopens. Assumes nothing.
 use mathlib.Core.Path.{_≡_, refl, sym, ap, subst, _∙_}
 use mathlib.Core.Bool.{Bool, true, false, _&&_, cond}
 use mathlib.Core.List.{List, [], _∷_}
