@@ -87,7 +87,7 @@ extern "C" {
 #define BERTH_STACK 12288
 
 /* The version that this header is of. It rises with any change of a struct, of a function or of what one means. */
-#define BERTH_VERSION 8
+#define BERTH_VERSION 9
 
 /* The version of the library, and the bytes of its value and names. They are plain numbers, so that they can be asked whatever else differs. */
 uint32_t berth_version(void);
@@ -251,7 +251,9 @@ struct berth_marked_value berth_fresh(void);
 struct berth_command_reply {
     size_t struck;   /* S: slots open before and struck after */
     size_t reopened; /* R: slots struck before and open after */
-    size_t touched;  /* T: of a put S; of a lift or a cancel at least R, and at most the slots struck before, of a cancel those of other calls; of a back S + R */
+    size_t touched;  /* T: of a put S; of a back S + R. Of a lift the size of the smallest set that has the slots whose cause is the rule, and each slot that stands
+                        in a row of its cause with the row's killer in the set: so those reopened, and those struck again. Of a cancel the same from the struck
+                        slots of the call, which are not counted */
     uint8_t number;  /* 0, or the refusal; S, R and T are 0 then, and for all kinds but put, lift, back and cancel */
 };
 

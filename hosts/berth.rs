@@ -20,7 +20,7 @@ pub const RECORDS: usize = 32;
 pub const FILE: usize = 32768;
 
 /// The version that this file is of; the library has its own.
-pub const VERSION: u32 = 8;
+pub const VERSION: u32 = 9;
 
 /// The calls and the heads of the rules in force.
 #[repr(C)]
@@ -192,8 +192,9 @@ pub struct Report {
     pub struck: usize,
     /// slots struck before and open after
     pub reopened: usize,
-    /// of a put the slots struck; of a lift or a cancellation at least those reopened, and at most those struck before, without the cancelled call's own; of a
-    /// back those struck and those reopened
+    /// of a put the slots struck; of a back those struck and those reopened. Of a lift the size of the smallest set that has the slots whose cause is the rule, and
+    /// each slot that stands in a row of its cause with the row's killer in the set; so those reopened, and those struck again. Of a cancellation the same from
+    /// the struck slots of the call, which are not counted
     pub touched: usize,
 }
 

@@ -633,6 +633,40 @@ static void cancel_without_rows(struct berth_board *board) {
     same_report("lift of it", berth_board_lift(board, 0), 0, 0, 0);
 }
 
+/* A rule with so many rows comes into force, and its report is as it should be: nothing reopens. */
+static void same_put(struct berth_board *board, uint8_t number, const uint8_t *calls, uint8_t arity, const uint8_t *rows, uint8_t count, long struck) {
+    same("head", berth_board_head(board, number, calls, arity).number, 0);
+    for (uint8_t w = 0; w < count; w++)
+        same("row", berth_board_row(board, rows + arity * w, arity).number, 0);
+    same_report("put", berth_board_put(board), struck, 0, struck);
+}
+
+/* Three slots are struck: this rule leaves call 0 its slot 0, and rule 1 passes slot 1 on to call 1. Rule 2 strikes that slot too, but comes too late to be its cause. */
+static void make_touched(struct berth_board *board, uint8_t number) {
+    same("board", berth_board_start(board, (const uint8_t[]){3, 2}, 2).number, 0);
+    same_put(board, number, (const uint8_t[]){0}, 1, (const uint8_t[]){0}, 1, 2);
+    same_put(board, 1, (const uint8_t[]){0, 1}, 2, (const uint8_t[]){0, 0, 1, 1, 2, 0}, 3, 1);
+    same_put(board, 2, (const uint8_t[]){1}, 1, (const uint8_t[]){0}, 1, 0);
+    same("cause on call 0", berth_board_slot_state(board, 0, 1).cause, number);
+    same("cause on call 1", berth_board_slot_state(board, 1, 1).cause, 1);
+}
+
+/* T is the size of the whole touched set, also of what is struck again at once. It goes by the recorded causes: rule 3 says what rule 0 says, and the one put first is the
+   cause. Of the other a lift touches nothing, though the same slots are struck. */
+static void touch_to_the_slot(struct berth_board *board) {
+    make_touched(board, 0);
+    same_report("lift that reopens one of three", berth_board_lift(board, 0), 0, 1, 3);
+    same("what it leaves open", berth_board_open_slots(board, 0).mask, 5);
+    make_touched(board, 0);
+    same_put(board, 3, (const uint8_t[]){0}, 1, (const uint8_t[]){0}, 1, 0);
+    same_report("lift that reopens nothing", berth_board_lift(board, 0), 0, 0, 3);
+    make_touched(board, 3);
+    same_put(board, 0, (const uint8_t[]){0}, 1, (const uint8_t[]){0}, 1, 0);
+    same_report("lift of a rule that is no cause", berth_board_lift(board, 0), 0, 0, 0);
+    same_report("cancel whose own slots are not counted", berth_board_cancel(board, 0), 0, 0, 1);
+    same("what it leaves open", berth_board_open_slots(board, 1).mask, 1);
+}
+
 /* A command on a board of any contents writes nothing beside the value, the names, the marks and the table that it is lent, and of names and marks no more than
    it has to; refused, it writes nothing at all. A cancel leaves the value and the rows. */
 static void obey_altered(struct berth_board *board, struct berth_command_bytes made) {
@@ -872,6 +906,7 @@ int main(int words, char **word) {
     cancel_call(board);
     refuse_cancelled(board);
     cancel_without_rows(board);
+    touch_to_the_slot(board);
     same_fence(&fenced);
     printf("header: %s\n", failed ? "FAILED" : "every function answers from C as it should");
     return failed;

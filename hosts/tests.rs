@@ -487,6 +487,41 @@ fn cancel_without_rows() {
     assert_eq!(board.lift(0), Ok(Report::default()));
 }
 
+/// A rule comes into force, and strikes so many slots.
+fn put(board: &mut Board, number: u8, calls: &[u8], rows: &[&[u8]], struck: usize) {
+    board.head(number, calls).unwrap();
+    rows.iter().for_each(|row| assert_eq!(board.row(row), Ok(Report::default())));
+    assert_eq!(board.put(), Ok(report(struck, 0, struck)));
+}
+
+/// Three slots are struck: this rule leaves call 0 its slot 0, and rule 1 passes slot 1 on to call 1. Rule 2 strikes that slot too, but comes too late to be its
+/// cause.
+fn touched_board(number: u8) -> Board {
+    let mut board = Board::new();
+    board.start(&[3, 2]).unwrap();
+    put(&mut board, number, &[0], &[&[0]], 2);
+    put(&mut board, 1, &[0, 1], &[&[0, 0], &[1, 1], &[2, 0]], 1);
+    put(&mut board, 2, &[1], &[&[0]], 0);
+    let causes = [0, 1].map(|call| board.slot_state(call, 1));
+    assert_eq!(causes, [number, 1].map(|cause| Ok(Slot::Struck { cause })));
+    board
+}
+
+/// T is the size of the whole touched set, also of what is struck again at once. It goes by the recorded causes: rule 3 says what rule 0 says, and the one put
+/// first is the cause. Of the other a lift touches nothing, though the same slots are struck.
+fn touch_to_the_slot() {
+    let masks = |board: &Board| [0, 1].map(|call| board.open_slots(call).unwrap().mask);
+    let mut board = touched_board(0);
+    assert_eq!((board.lift(0), masks(&board)), (Ok(report(0, 1, 3)), [5, 1]));
+    let mut board = touched_board(0);
+    put(&mut board, 3, &[0], &[&[0]], 0);
+    assert_eq!((board.lift(0), masks(&board)), (Ok(report(0, 0, 3)), [1, 1]));
+    let mut board = touched_board(3);
+    put(&mut board, 0, &[0], &[&[0]], 0);
+    assert_eq!((board.lift(0), masks(&board)), (Ok(report(0, 0, 0)), [1, 1]));
+    assert_eq!((board.cancel(0), masks(&board)), (Ok(report(0, 0, 1)), [0, 1]));
+}
+
 /// Heads that hold nothing but this byte, and a whole value.
 fn heads_of(byte: u8) -> Heads {
     Heads { counts: [byte; 32], arity: [byte; 64], scope: [byte; 256], lengths: [byte; 64] }
@@ -693,6 +728,7 @@ fn main() {
     cancel_call();
     refuse_cancelled();
     cancel_without_rows();
+    touch_to_the_slot();
     name();
     println!("wrapper: every function answers from Rust as it should");
 }

@@ -1,6 +1,6 @@
 //! The ledger (SCOPE 6.5), written for the tests and apart from the board: the calls' slot counts, the cancelled calls, the draft, the rules and the kept
 //! boards, when a command or a question is refused, and what a command does. A new kind of command is added to the constants, to `body_length`, `kind_refusal`,
-//! `obey` and `leaves_buffers` here, to `report_of` in filter.rs and `touched_limits` in session.rs, to what writer.rs writes, and to `REFUSALS_OF_KIND` in
+//! `obey` and `leaves_buffers` here, to `report_of` in filter.rs and `touched_by` in touched.rs, to what writer.rs writes, and to `REFUSALS_OF_KIND` in
 //! tally.rs.
 
 use std::collections::{BTreeMap, BTreeSet};

@@ -26,6 +26,7 @@ mod session;
 mod sheet;
 mod summary;
 mod tally;
+mod touched;
 mod writer;
 
 fn main() {

@@ -77,7 +77,7 @@ fn check_rings(ledger: &Ledger, struck: &Slots, memory: Memory) {
 }
 
 /// The slots of a call that have this cause.
-fn caused(slots: &[u8], call: u8, number: u8) -> u32 {
+pub fn caused(slots: &[u8], call: u8, number: u8) -> u32 {
     let bytes = &slots[32 * call as usize..][..32];
     bytes.iter().rev().fold(0, |mask, byte| mask << 1 | (*byte == number) as u32)
 }

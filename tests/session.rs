@@ -7,7 +7,7 @@ use crate::ledger::{self, Ledger};
 use crate::marks::Past;
 use crate::summary::table_of;
 use crate::tally::Tally;
-use std::ops::RangeInclusive;
+use crate::touched::touched_by;
 
 pub struct Session<'a> {
     pub host: Host,
@@ -23,16 +23,6 @@ pub struct Session<'a> {
     /// what became of each name
     past: [Past; 2],
     pub tally: &'a mut Tally,
-}
-
-/// What T may be; so many slots of calls that are not cancelled were struck before.
-fn touched_limits(kind: u8, struck: usize, reopened: usize, struck_before: usize) -> RangeInclusive<usize> {
-    match kind {
-        ledger::PUT => struck..=struck,
-        ledger::LIFT | ledger::CANCEL => reopened..=struck_before,
-        ledger::BACK => struck + reopened..=struck + reopened,
-        _ => 0..=0,
-    }
 }
 
 impl<'a> Session<'a> {
@@ -88,6 +78,7 @@ impl<'a> Session<'a> {
 
     /// The ledger follows, and the value, every byte and the report are as it says.
     fn accepted(&mut self, bytes: &[u8], report: Report, before: &Host) {
+        let touched = touched_by(bytes, &self.ledger, before.memory(), report.struck, report.reopened);
         self.ledger.obey(bytes);
         assert_eq!(self.host.value, value_of(&self.ledger), "the value after {bytes:?}");
         let before_it = [self.open.clone(), self.struck.clone()];
@@ -100,6 +91,7 @@ impl<'a> Session<'a> {
         }
         self.check_kept(bytes);
         self.check_report(bytes, report, before_it.each_ref());
+        assert_eq!(report.touched, touched, "T of {bytes:?}");
     }
 
     /// Every byte that a back leaves is what it was at the mark. (host.rs asserts what the marks are after each command.)
@@ -119,9 +111,6 @@ impl<'a> Session<'a> {
         let (struck, reopened) = filter::report_of(bytes[0], before, [&self.open, &self.struck]);
         assert_eq!((report.struck, report.reopened), (struck, reopened), "S and R of {bytes:?}");
         assert!(bytes[0] != ledger::CANCEL || struck == 0, "{bytes:?} strikes something");
-        let struck_before = filter::common(before[1], &filter::all_slots(&self.ledger));
-        let limits = touched_limits(bytes[0], struck, reopened, struck_before);
-        assert!(limits.contains(&report.touched), "T of {bytes:?} is {}, and not in {limits:?}", report.touched);
         self.tally.report(bytes[0], report);
     }
 

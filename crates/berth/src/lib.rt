@@ -24,7 +24,7 @@ ghost use Rattle.layout.specs.Memory.{memory, markedMemory, wholeOf};
 ghost use Rattle.berth.specs.Version.{interfaceVersion, valueSize};
 
 // A host compares these two with what its header says. They take and return plain numbers, so that a host of any version can ask.
-const VERSION: u32 = 8;
+const VERSION: u32 = 9;
 
 // The bytes of `MarkedValue`: 416 of the heads, 263 of the draft, and 834 of the names.
 const VALUE_SIZE: usize = 1513;

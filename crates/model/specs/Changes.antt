@@ -1,9 +1,11 @@
--- WHAT PROPAGATION AND RELAXATION DO TO THE RECORDS: strikes, kills, the slots that a retraction touches, their reopening; and stable rules.
+-- WHAT PROPAGATION AND RELAXATION DO TO THE RECORDS: strikes, kills, the slots that a retraction or a cancellation touches, their reopening; and stable rules.
 use mathlib.Core.Path.{_≡_}
 use mathlib.Core.Logic.{_≢_, _⊎_}
+use mathlib.Core.Bool.{Bool}
 use Prim.Native.Nat.{ℕ, _<_}
 use lib.ListN.{length}
-use Rattle.model.specs.Board.{Rule, Board, Cancelled, Live, OnBoard, InForce, InScope, Holds, Within}
+use lib.Dec.{T}
+use Rattle.model.specs.Board.{Rule, Board, Cancelled, Live, OnBoard, InForce, InScope, Holds, Within, Passing}
 use Rattle.model.specs.Records.{Open, Struck, KillerIn}
 
 -- A STRIKE: causes change only from open to p, the number of a rule r on their call, each of whose rows that hold the slot has a killer
@@ -42,8 +44,14 @@ pub record ClosedFor (B : Board) (Seed : ℕ → ℕ → Type 0) (cause killer :
   pub more : (c s : ℕ) → Struck B cause c s → (r : Rule) → InForce B (cause c s) r → (w : ℕ) → w < length (r .rows) → Holds B r w c s
       → KillerIn B killer Z r (cause c s) w → Z c s
 
--- ITS REOPENING on the weaker board: its slots become open, the rows whose killers it has become living, and all else stays. Of slots that are not on the weaker board,
--- those of a call cancelled there among them, and of rules not in force there it says nothing
+-- THE SMALLEST CLOSED SET (SCOPE 3.19, order 9), by a test f: what passes f is closed, and lies in every closed set that has a test. There is only one such set
+-- (Laws.Touched, `one-smallest`)
+pub record Smallest (B : Board) (Seed : ℕ → ℕ → Type 0) (cause killer : ℕ → ℕ → ℕ) (f : ℕ → ℕ → Bool) : Type 0 where
+  pub closed : ClosedFor B Seed cause killer (Passing f)
+  pub least : (g : ℕ → ℕ → Bool) → ClosedFor B Seed cause killer (Passing g) → (c s : ℕ) → T (f c s) → T (g c s)
+
+-- THE REOPENING OF A CLOSED SET on the weaker board: its slots become open, the rows whose killers it has become living, and all else stays. Of slots that are not on the
+-- weaker board, those of a call cancelled there among them, and of rules not in force there it says nothing
 pub record Reopens (B B′ : Board) (Z : ℕ → ℕ → Type 0) (cause cause′ killer killer′ : ℕ → ℕ → ℕ) : Type 0 where
   pub opened : (c s : ℕ) → OnBoard B′ c s → Z c s → cause′ c s ≡ 255
   pub kept : (c s : ℕ) → OnBoard B′ c s → (Z c s → ⊥) → cause′ c s ≡ cause c s

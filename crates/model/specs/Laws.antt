@@ -18,6 +18,7 @@ pub mod Again
 pub mod Samples
 pub mod Counts
 pub mod Reports
+pub mod Touched
 pub mod Summary
 pub mod Marks
 pub mod Masks

@@ -12,6 +12,7 @@ use Rattle.model.specs.declared.command.Command.{Command}
 use Rattle.model.specs.declared.command.Command.the-variants as kind
 use Rattle.model.specs.declared.command.Read.{Read}
 use Rattle.model.specs.declared.command.Read.the-variants as found
+use Rattle.model.specs.Board.{Board}
 use Rattle.model.specs.Commands.{readAt}
 use Rattle.model.specs.Ledger.{Ledger, LedgerShape, fresh, earlyConditions, kindConditions, refusal, effect, obey, step}
 use Rattle.model.specs.Report.{Reports}
@@ -50,11 +51,11 @@ refusedWith n value = record { answer = answer.Refused n; value = value }
 abbrev pub acceptedWith : ℕ → ℕ → ℕ → Value → Outcome
 acceptedWith struck reopened touched value = record { answer = answer.Accepted (record { struck = struck; reopened = reopened; touched = touched }); value = value }
 
--- the report of what was read: of a command by its kind
-abbrev pub ReportsOf : Read → State → State → Report → Type 0
-ReportsOf (found.Command c) before after r = Reports c before after r
-ReportsOf (found.Refused k n) before after r = ⊥
-ReportsOf found.End before after r = ⊥
+-- the report of what was read, on the board B: of a command by its kind
+abbrev pub ReportsOf : Board → Read → State → State → Report → Type 0
+ReportsOf B (found.Command c) before after r = Reports B c before after r
+ReportsOf B (found.Refused k n) before after r = ⊥
+ReportsOf B found.End before after r = ⊥
 
 -- A DECISION, by the number of the first condition that holds, or 0: the answer's number and values, the report where it is 0, and what is said of the memory after
 pub record Decided (n : ℕ) (Reported : Report → Type 0) (Left : Type 0) (given : Answer) : Type 0 where
@@ -67,13 +68,13 @@ pub record Decided (n : ℕ) (Reported : Report → Type 0) (Left : Type 0) (giv
 -- on a state with marks that is the ledger L's: the first condition of the whole table decides, and what is left is the stepped ledger's
 abbrev pub Answered : CommandLent → Ledger → MarkedState → List ℕ → Answer → MarkedState → Type 0
 Answered lent L before bytes given after =
-    Decided (refusal L lent bytes) (ReportsOf (readAt bytes 0 .read) (before .state) (after .state)) (RepresentsMarked (step L lent bytes) after) given
+    Decided (refusal L lent bytes) (ReportsOf (L .board) (readAt bytes 0 .read) (before .state) (after .state)) (RepresentsMarked (step L lent bytes) after) given
 
 -- the same of a command that has been read, with the kind's own conditions: what the functions under the entry promise
 abbrev pub ObeyedMarked : Ledger → MarkedState → Command → List ℕ → Answer → MarkedState → Type 0
 ObeyedMarked L before c ns given after =
     let n = firstOf (kindConditions L c ns) in
-    Decided n (Reports c (before .state) (after .state)) (RepresentsMarked (obey n L (found.Command c) ns) after) given
+    Decided n (Reports (L .board) c (before .state) (after .state)) (RepresentsMarked (obey n L (found.Command c) ns) after) given
 
 pub record MarkedPromise (before : MarkedState) (c : Command) (ns : List ℕ) (given : Answer) (after : MarkedState) : Type 0 where
   pub refused : (n : ℕ) → given ≡ answer.Refused n → after ≡ before
@@ -85,7 +86,7 @@ pub record MarkedPromise (before : MarkedState) (c : Command) (ns : List ℕ) (g
 abbrev pub Obeyed : Ledger → State → Command → List ℕ → Answer → State → Type 0
 Obeyed L before c ns given after =
     let n = firstOf (kindConditions L c ns) in
-    Decided n (Reports c before after) (Represents (obey n L (found.Command c) ns) after) given
+    Decided n (Reports (L .board) c before after) (Represents (obey n L (found.Command c) ns) after) given
 
 pub record KindPromise (before : State) (c : Command) (ns : List ℕ) (given : Answer) (after : State) : Type 0 where
   pub refused : (n : ℕ) → given ≡ answer.Refused n → after ≡ before

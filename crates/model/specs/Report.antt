@@ -1,8 +1,8 @@
--- S, R AND T (SCOPE 3.7 to 3.10): what an accepted command reports of the slots that it struck, reopened and touched.
+-- S, R AND T (SCOPE 3.7 to 3.10, 3.15, 3.17): what an accepted command reports of the slots that it struck, reopened and touched.
 use mathlib.Core.Path.{_≡_}
 use mathlib.Core.Bool.{Bool, true, false, not, _&&_, cond}
 use mathlib.Core.List.{List}
-use Prim.Native.Nat.{ℕ, _+_, _/_, _%_, _≤_}
+use Prim.Native.Nat.{ℕ, _+_, _/_, _%_}
 use lib.Dec.{eqb, ltb}
 use Rattle.model.specs.declared.answer.Report.{Report}
 use Rattle.model.specs.declared.command.Command.{Command}
@@ -10,7 +10,8 @@ use Rattle.model.specs.declared.command.Command.the-variants as kind
 use Rattle.model.specs.Board.{Board, slotsOn}
 use Rattle.model.specs.Tests.{countBelow}
 use Rattle.model.specs.Filter.{in?, openOf}
-use Rattle.layout.specs.Places.{causeOf}
+use Rattle.model.specs.Changes.{CauseIs, OwnSlot, Smallest}
+use Rattle.layout.specs.Places.{causeOf, killerOf}
 use Rattle.layout.specs.Memory.{State}
 use Rattle.layout.specs.Sizes.{slotsLength}
 
@@ -69,36 +70,43 @@ abbrev pub reopenedBy : Command → Board → Board → ℕ
 reopenedBy c B B′ = cond (changesSlots? c) (reopenedOf B (openOf B) (openOf B′)) 0
 
 -- a put reopens nothing, and touches what it strikes (SCOPE 3.9)
-pub record PostOwn (before after : State) (r : Report) : Type 0 where
+pub record PostOwn (r : Report) : Type 0 where
   pub none-reopened : r .reopened ≡ 0
   pub touched : r .touched ≡ r .struck
 
--- a lift strikes nothing, and T lies between R and the number of slots that were struck (SCOPE 3.10)
-pub record RetractOwn (before after : State) (r : Report) : Type 0 where
-  pub none-struck : r .struck ≡ 0
-  pub least : r .reopened ≤ r .touched
-  pub most : r .touched ≤ struckIn (before .slots)
+-- T FROM A SEED (SCOPE 3.19, order 9): the size of the smallest closed set, by the causes and killers before the command. What does not pass `counted` is left out
+pub record TouchedFrom (B : Board) (Seed : ℕ → ℕ → Type 0) (counted : ℕ → ℕ → Bool) (killers slots : List ℕ) (t : ℕ) : Type 0 where
+  pub set : ℕ → ℕ → Bool
+  pub smallest : Smallest B Seed (causeOf slots) (killerOf killers) set
+  pub size : t ≡ slotCount λ c s. counted c s && set c s
 
--- and a cancellation too, the slots of its own call left out (SCOPE 3.17)
-pub record CancelOwn (c : ℕ) (before after : State) (r : Report) : Type 0 where
+-- of a lift of rule p: from the slots whose cause is p, none left out (SCOPE 3.10)
+abbrev pub RetractTouched : Board → ℕ → List ℕ → List ℕ → ℕ → Type 0
+RetractTouched B p killers slots t = TouchedFrom B (CauseIs (causeOf slots) p) (λ c s. true) killers slots t
+
+-- of a cancellation of call d: from the struck slots of d, and these are left out (SCOPE 3.17)
+abbrev pub CancelTouched : Board → ℕ → List ℕ → List ℕ → ℕ → Type 0
+CancelTouched B d killers slots t = TouchedFrom B (OwnSlot d) (λ c s. not (eqb c d)) killers slots t
+
+-- neither strikes anything. That R is at most T, and T at most the number of slots that were struck, follows (Laws.Touched)
+pub record RelaxOwn (OwnTouched : List ℕ → List ℕ → ℕ → Type 0) (before : State) (r : Report) : Type 0 where
   pub none-struck : r .struck ≡ 0
-  pub least : r .reopened ≤ r .touched
-  pub most : r .touched ≤ struckBeside c (before .slots)
+  pub touched : OwnTouched (before .killers) (before .slots) (r .touched)
 
 -- what a kind says of its own (SCOPE 3.8 to 3.10, 3.15, 3.17): kinds 1, 2, 3, 6 and 7 touch nothing, and kind 8 touches what it strikes and what it reopens
-abbrev pub ReportsOwn : Command → State → State → Report → Type 0
-ReportsOwn kind.Board before after r = r .touched ≡ 0
-ReportsOwn (kind.Head h) before after r = r .touched ≡ 0
-ReportsOwn (kind.Row w) before after r = r .touched ≡ 0
-ReportsOwn kind.Post before after r = PostOwn before after r
-ReportsOwn (kind.Retract n) before after r = RetractOwn before after r
-ReportsOwn (kind.Gap f) before after r = r .touched ≡ 0
-ReportsOwn (kind.Keep n) before after r = r .touched ≡ 0
-ReportsOwn (kind.Back n) before after r = r .touched ≡ r .struck + r .reopened
-ReportsOwn (kind.Cancel c) before after r = CancelOwn c before after r
+abbrev pub ReportsOwn : Board → Command → State → Report → Type 0
+ReportsOwn B kind.Board before r = r .touched ≡ 0
+ReportsOwn B (kind.Head h) before r = r .touched ≡ 0
+ReportsOwn B (kind.Row w) before r = r .touched ≡ 0
+ReportsOwn B kind.Post before r = PostOwn r
+ReportsOwn B (kind.Retract n) before r = RelaxOwn (RetractTouched B n) before r
+ReportsOwn B (kind.Gap f) before r = r .touched ≡ 0
+ReportsOwn B (kind.Keep n) before r = r .touched ≡ 0
+ReportsOwn B (kind.Back n) before r = r .touched ≡ r .struck + r .reopened
+ReportsOwn B (kind.Cancel d) before r = RelaxOwn (CancelTouched B d) before r
 
--- THE REPORT OF A COMMAND, from the states before and after: S and R count the slots that a put, a lift, a back or a cancellation changed (SCOPE 3.7)
-pub record Reports (c : Command) (before after : State) (r : Report) : Type 0 where
+-- THE REPORT OF A COMMAND on the board B, from the states before and after: S and R count the slots that a put, a lift, a back or a cancellation changed (SCOPE 3.7)
+pub record Reports (B : Board) (c : Command) (before after : State) (r : Report) : Type 0 where
   pub struck : r .struck ≡ cond (changesSlots? c) (struckBetween (before .slots) (after .slots)) 0
   pub reopened : r .reopened ≡ cond (changesSlots? c) (reopenedBetween (before .slots) (after .slots)) 0
-  pub own : ReportsOwn c before after r
+  pub own : ReportsOwn B c before r

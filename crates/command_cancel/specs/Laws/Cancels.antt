@@ -33,7 +33,7 @@ module _ (call : ℕ) (before : State) (ns : List ℕ) where
   module _ (given : Answer) (after : State) (done : CallCancelled call before given after) where
     -- a call of the board is below 32, and its count is the head's
     cancelled : (L : Ledger) → LedgerShape L → Represents L before → call < length (L .board .counts)
-        → CancelStored (L .board) call (before .value .heads) (before .rows) (after .killers) (before .slots) (after .slots) (done .reopened) (done .touched)
+        → CancelStored (L .board) call (before .value .heads) (before .rows) (before .killers) (after .killers) (before .slots) (after .slots) (done .reopened) (done .touched)
     cancelled L shape is there =
         let lc : call < 32 = omega (arith, shape .board .calls) in
         let number : call % 32 ≡ call = omega arith in
@@ -43,13 +43,13 @@ module _ (call : ℕ) (before : State) (ns : List ℕ) where
         (min (getD (before .value .heads .counts) call 0) 32) (omega arith) (rw number at (done .done))
 
     cancel-reports : {B : Board}
-        → CancelStored B call (before .value .heads) (before .rows) (after .killers) (before .slots) (after .slots) (done .reopened) (done .touched)
-        → Reports (kind.Cancel call) before after (cancelReport (done .reopened) (done .touched))
+        → CancelStored B call (before .value .heads) (before .rows) (before .killers) (after .killers) (before .slots) (after .slots) (done .reopened) (done .touched)
+        → Reports B (kind.Cancel call) before after (cancelReport (done .reopened) (done .touched))
     cancel-reports h =
         record {
           struck = sym (h .none-struck);
           reopened = sym (h .reopened-is);
-          own = record { none-struck = refl; least = h .least; most = h .most };
+          own = record { none-struck = refl; touched = h .touched-is };
         }
 
     pub cancel-accepted : 0 ≡ firstOf (cancelChecks (before .value .heads .counts) (before .slots) call) → KindPromise before (kind.Cancel call) ns given after

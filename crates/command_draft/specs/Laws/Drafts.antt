@@ -72,7 +72,7 @@ module _ (value : Value) (slots : List ℕ) (h : Head) where
             let held = head-held h (arity-most (h .arity) (good refused.badArity)) (good refused.spareField) in
             rw (new-left given z) (record { number = refl; rule = held });
         board = λ L ns. refl;
-        report = λ before after. record { struck = refl; reopened = refl; own = refl };
+        report = λ B before after. record { struck = refl; reopened = refl; own = refl };
       }
 
 -- KIND 3: four slots written at a place are read there, and the other bytes stay
@@ -180,5 +180,5 @@ module _ (value : Value) (slots : List ℕ) (w : Row) where
             let held = longer-held (draftOr (L .draft) .rule) (value .draft .rule) w (is .drafted .rule) (draft-limits L shape .columns) room (good refused.spareField) in
             rw (new-left given z) (record { number = is .drafted .number; rule = held });
         board = λ L ns. refl;
-        report = λ before after. record { struck = refl; reopened = refl; own = refl };
+        report = λ B before after. record { struck = refl; reopened = refl; own = refl };
       }

@@ -44,7 +44,7 @@ pub record RedraftRight (value : Value) (slots : List ℕ) (c : Command) (r : Re
   pub drafted : r .number ≡ 0 → (L : Ledger) → LedgerShape L → (rows killers : List ℕ) → Represents L (stateOf value rows killers slots) → (ns : List ℕ)
       → Drafted (effect L c ns .draft) (r .draft)
   pub board : (L : Ledger) (ns : List ℕ) → L .board ≡ effect L c ns .board
-  pub report : (before after : State) → Reports c before after noChange
+  pub report : (B : Board) (before after : State) → Reports B c before after noChange
 
 pub redraft-promise : {value : Value} {slots : List ℕ} {c : Command} {r : Redrafted} → RedraftRight value slots c r → DraftPromise value slots c (draftOutcome value r)
 redraft-promise {value} {slots} {c} {r} right rows killers ns = go (ℕ-discrete (r .number) 0)
@@ -62,7 +62,7 @@ redraft-promise {value} {slots} {c} {r} right rows killers ns = go (ℕ-discrete
         (promise-accepted before c ns (stateOf (withDraft value (r .draft)) rows killers slots) noChange
         (λ L shape is. (
           sym z ∙ number L shape is,
-          right .report before (stateOf (withDraft value (r .draft)) rows killers slots),
+          right .report (L .board) before (stateOf (withDraft value (r .draft)) rows killers slots),
           record {
             stored = subst (λ (B : Board). Stored B (value .heads) rows killers slots) (right .board L ns) (is .stored);
             drafted = right .drafted z L shape rows killers is ns;

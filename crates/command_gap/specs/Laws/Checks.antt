@@ -120,5 +120,5 @@ module _ (value : Value) (slots : List ℕ) (f : GapRule) where
             let few = ltb-false 64 (length (ruleOfGap (L .board .counts) f .rows)) (good refused.tooManyPairs) in
             record { number = given .drawn z .number; rule = gap-held (L .board) (shape .board) (value .heads) (is .stored .headed) f _ (given .drawn z) (there .0) (there .1) few };
         board = λ L ns. refl;
-        report = λ before after. record { struck = refl; reopened = refl; own = refl };
+        report = λ B before after. record { struck = refl; reopened = refl; own = refl };
       }

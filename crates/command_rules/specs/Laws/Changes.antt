@@ -61,8 +61,8 @@ module _ (before : State) (ns : List ℕ) where
     abbrev after : State
     after = stateOf (withDraft (left .value) kept) (left .rows) (left .killers) (left .slots)
 
-    post-reports : length (before .slots) ≡ slotsLength → Reports kind.Post before after (postReport (done .struck))
-    post-reports size =
+    post-reports : (B : Board) → length (before .slots) ≡ slotsLength → Reports B kind.Post before after (postReport (done .struck))
+    post-reports B size =
         record {
           struck = post-struck size (done .done);
           reopened = sym (post-reopened size (done .done));
@@ -96,7 +96,7 @@ module _ (before : State) (ns : List ℕ) where
         (λ L shape is.
         let passes = e ∙ post-checks-same L shape before is ns in (
           passes,
-          post-reports (is .stored .slots-size),
+          post-reports (L .board) (is .stored .slots-size),
           post-represents L shape is (sym passes),
         )))
 
@@ -108,18 +108,18 @@ module _ (n : ℕ) (before : State) (ns : List ℕ) where
 
   module _ (given : Answer) (after : State) (done : Retracted n before given after) where
     retracted : (L : Ledger) → LedgerShape L → Represents L before → n < 64
-        → RetractStored (L .board) n (before .value .heads) (stateRules after) (after .killers) (before .slots) (after .slots) (done .reopened) (done .touched)
+        → RetractStored (L .board) n (before .value .heads) (stateRules after) (before .killers) (after .killers) (before .slots) (after .slots) (done .reopened) (done .touched)
     retracted L shape is ln =
         let number : n % 64 ≡ n = omega arith in
         retract-stored (L .board) (shape .board) n ln (before .value .heads) (before .rows) (before .killers) (before .slots) (is .stored) (rw number at (done .done))
 
-    retract-reports : {B : Board} → RetractStored B n (before .value .heads) (stateRules after) (after .killers) (before .slots) (after .slots) (done .reopened) (done .touched)
-        → Reports (kind.Retract n) before after (retractReport (done .reopened) (done .touched))
+    retract-reports : {B : Board} → RetractStored B n (before .value .heads) (stateRules after) (before .killers) (after .killers) (before .slots) (after .slots) (done .reopened) (done .touched)
+        → Reports B (kind.Retract n) before after (retractReport (done .reopened) (done .touched))
     retract-reports h =
         record {
           struck = sym (h .none-struck);
           reopened = sym (h .reopened-is);
-          own = record { none-struck = refl; least = h .least; most = h .most };
+          own = record { none-struck = refl; touched = h .touched-is };
         }
 
     pub retract-accepted : 0 ≡ firstOf (retractChecks (before .value .heads .counts) (before .value .heads .arity) n) → KindPromise before (kind.Retract n) ns given after

@@ -1,14 +1,13 @@
 -- A CANCELLATION LEADS FROM A STORED BOARD TO A STORED BOARD with the call cancelled, with S, R and T as they have to be. It is the law of relaxation again, from the
 -- call's own struck slots. Assumes nothing.
 use mathlib.Core.Path.{_≡_, refl, sym, _∙_}
-use mathlib.Core.Bool.{Bool, false, not, _&&_}
+use mathlib.Core.Bool.{Bool, true, false, not, _&&_}
 use mathlib.Core.List.{List}
-use mathlib.Core.Logic.{_↔_, _⊎_, _≢_, inl, inr, ⊎-elim}
-use Prim.Native.Nat.{ℕ, _+_, _*_, _/_, _%_, _<_, _≤_, zero-le}
+use mathlib.Core.Logic.{_⊎_, _≢_, inl, inr, ⊎-elim}
+use Prim.Native.Nat.{ℕ, _+_, _*_, _/_, _%_, _<_, _≤_}
 use native.Mathlib.Omega.{arith}
-use native.Mathlib.Nat.{sub-le}
 use lib.ListN.{length, getD, replicate, getD-replicate}
-use lib.Dec.{T, eqb, lt→ltb, ltb→lt, eqb→eq, not-T}
+use lib.Dec.{T, eqb, ltb, ltb→lt, eqb→eq, not-T, T-not}
 use borrow.Author.Tests.{lt-ltb}
 use Rattle.layout.specs.declared.value.Heads.{Heads}
 use Rattle.layout.specs.Places.{callOf, rowCell, slotPlace, causeOf, killerOf, cancelledByte}
@@ -18,30 +17,34 @@ use Rattle.model.specs.Board.{Board, OnBoard, Shape}
 use Rattle.model.specs.Records.{Struck, Sound}
 use Rattle.model.specs.Changes.{Weaker, Seeds, OwnSlot}
 use Rattle.model.specs.Ledger.{cancelCall}
-use Rattle.model.specs.Report.{struck?}
 use Rattle.model.specs.Representation.{ruleAt, Headed, offByte, Stored}
-use Rattle.model.specs.Laws.Tests.{→and}
+use Rattle.model.specs.Laws.Tests.{and→, →and, →T, T→, →eqb, same-test, count-none}
+use Rattle.model.specs.Laws.Reports.{slots-same}
+use Rattle.model.specs.Laws.Touched.{smallest-none}
 use Rattle.model.specs.Laws.Theory.{on-live, on-count, live-not}
 use Rattle.model.specs.Laws.Shapes.{shape-cancelled}
-use Rattle.model.specs.Laws.Change.{on-range, off-limits, on-weaker, cancelled-itself, cancel-live, cancel-weaker, cancel-seeds}
+use Rattle.model.specs.Laws.Change.{on-range, byte-on, off-limits, on-weaker, cancelled-itself, cancel-live, cancel-weaker, cancel-seeds}
 use Rattle.filter_propagate.specs.Rules.{RuleBytes, reached}
 use Rattle.filter_propagate.specs.Strikes.{isOpen, isStruck}
 use Rattle.filter_propagate.specs.Stable.{StableBytes}
 use Rattle.filter_propagate.specs.Queue.{IsFlagged}
 use Rattle.filter_propagate.specs.Laws.Kept.{steps-slots, propagated-lost}
-use Rattle.filter_relax.specs.Touched.{Touched}
 use Rattle.filter_relax.specs.Relaxed.{Relaxed}
-use Rattle.filter_relax.specs.Laws.Reach.{reach-in}
 use Rattle.filter_relax.specs.Laws.Relaxed.{stays-stable}
 use Rattle.filter_meaning.specs.Rules.{RulesOf, bytesIn}
 use Rattle.filter_meaning.specs.Working.{Working}
+use Rattle.filter_meaning.specs.Relaxing.{visitedTest}
 use Rattle.filter_meaning.specs.Counts.{Neither, Reopening}
-use Rattle.filter_meaning.specs.Laws.Counts.{none-counted, reopened-count, visited-most}
+use Rattle.filter_meaning.specs.Laws.Counts.{none-counted, reopened-count, visited-count}
 use Rattle.filter_meaning.specs.Laws.Rules.{stored-rules}
-use Rattle.filter_meaning.specs.Laws.Relaxing.{no-own-kill, visited-were-struck, relaxed-off, relaxed-spare, relaxed-sound, quiet-sound, open-not-struck-after, none-struck-between}
+use Rattle.filter_meaning.specs.Laws.Relaxing.{visited-smallest, visited-were-struck, relaxed-off, relaxed-spare, relaxed-sound, quiet-sound, open-not-struck-after, none-struck-between}
 use Rattle.filter_meaning.specs.Laws.Settled.{settled, at-rest, propagated-stored}
 use Rattle.filter_cancel.specs.Done.{OwnStruck, Withdrawn, CancelQuiet, CancelReworked, CancelDone}
 use Rattle.filter_cancel.specs.Stored.{CancelStored}
+
+and-false : (a : Bool) → (a && false) ≡ false
+and-false true = refl
+and-false false = refl
 
 -- A WITHDRAWAL leaves the slots of other calls, and each byte is as it was or a cancelled call's
 module _ (c n : ℕ) {old new : List ℕ} (few : n ≤ 32) (w : Withdrawn c n old new) where
@@ -123,6 +126,14 @@ module _ (B : Board) (shape : Shape B) (c : ℕ) (there : c < length (B .counts)
   struck : (j : ℕ) → OwnStruck slots c j → getD slots j 0 < 64
   struck j z = z .3
 
+  -- and what the seed has over the bytes is a struck slot of the call
+  begins : (j : ℕ) → OwnStruck slots c j → Struck B (causeOf slots) (j / 32) (j % 32) × OwnSlot c (j / 32) (j % 32)
+  begins j z =
+      let at : 32 * (j / 32) + j % 32 ≡ j = omega arith in
+      let own : j / 32 ≡ c = omega (arith, z .1, z .2) in
+      let lt : causeOf slots (j / 32) (j % 32) < 64 = rw at (z .3) in
+      ((byte-on B (causeOf slots) (stored .off) (j / 32) (j % 32) (omega (arith, own, there, shape .calls)) (omega arith) (inr lt), lt), own)
+
   -- no slot of the call is on the board any more
   own-off : (s : ℕ) → OnBoard (cancelCall B c) c s → ⊥
   own-off s on = live-not (cancelCall B c) c (on-live (cancelCall B c) c s on) (cancelled-itself B c)
@@ -170,7 +181,7 @@ module _ (B : Board) (shape : Shape B) (c : ℕ) (there : c < length (B .counts)
 
   -- WHERE NO SLOT OF THE CALL IS STRUCK, nothing reopens
   quiet-stored : {killers′ slots′ : List ℕ} {reopened touched : ℕ} → CancelQuiet c n killers killers′ slots slots′ reopened touched
-      → CancelStored B c heads rows killers′ slots slots′ reopened touched
+      → CancelStored B c heads rows killers killers′ slots slots′ reopened touched
   quiet-stored {killers′} {slots′} {reopened} {touched} q =
       record {
         stored = after;
@@ -178,10 +189,16 @@ module _ (B : Board) (shape : Shape B) (c : ℕ) (there : c < length (B .counts)
         reopened-is = none-counted isStruck isOpen slots slots′
             (λ j h o. stays-struck j (ltb→lt (getD slots j 0) 64 h) (eqb→eq (getD slots′ j 0) 255 o) (withdrawn-each c n few (q .withdrawn) j))
             ∙ sym (q .none-reopened);
-        least = rw (q .none-reopened) zero-le;
-        most = rw (q .none-touched) zero-le;
+        touched-is = record {
+          set = λ d s. false;
+          smallest = smallest-none B (OwnSlot c) (causeOf slots) (killerOf killers) unseeded;
+          size = q .none-touched ∙ sym (count-none slotsLength (λ i. not (eqb (i / 32) c) && false) (λ i l. and-false (not (eqb (i / 32) c))));
+        };
       }
     where
+      unseeded : (d s : ℕ) → Struck B (causeOf slots) d s → OwnSlot c d s → ⊥
+      unseeded d s h e = q .none (32 * d + s) (seeded d s h e)
+
       stays-struck : (j : ℕ) → getD slots j 0 < 64 → getD slots′ j 0 ≡ 255 → (getD slots′ j 0 ≡ getD slots j 0) ⊎ (getD slots′ j 0 ≡ cancelledByte) → ⊥
       stays-struck j h o (inl same) = omega arith
       stays-struck j h o (inr gone) = omega arith
@@ -189,7 +206,7 @@ module _ (B : Board) (shape : Shape B) (c : ℕ) (there : c < length (B .counts)
       sound : Sound (cancelCall B c) (causeOf slots′) (killerOf killers)
       sound =
           quiet-sound B (cancelCall B c) weaker shape (OwnSlot c) (causeOf slots) (causeOf slots′) (killerOf killers) (killerOf killers) seeds
-          (λ d s h e. q .none (32 * d + s) (seeded d s h e)) (left-on slots slots′ (q .withdrawn) (stored .off)) (λ p v r f lv. refl) (stored .recorded .sound)
+          unseeded (left-on slots slots′ (q .withdrawn) (stored .off)) (λ p v r f lv. refl) (stored .recorded .sound)
 
       after : Stored (cancelCall B c) heads rows killers′ slots′
       after =
@@ -200,15 +217,19 @@ module _ (B : Board) (shape : Shape B) (c : ℕ) (there : c < length (B .counts)
 
   -- WHERE ONE IS, the touched slots of the other calls reopen, less those that are struck again
   reworked-stored : {killers′ slots′ : List ℕ} {reopened touched : ℕ} → CancelReworked c n (bytesIn heads rows) killers killers′ slots slots′ reopened touched
-      → CancelStored B c heads rows killers′ slots slots′ reopened touched
+      → CancelStored B c heads rows killers killers′ slots slots′ reopened touched
   reworked-stored {killers′} {slots′} {reopened} {touched} d =
       record {
         stored = after;
         none-struck = none-struck-between B (cancelCall B c) weaker stored after;
         reopened-is = reopened-count slots (d .left) slots′ (d .others) (d .again) touched (stored .slots-size) reopening (propagated-lost (bytesIn heads rows) (d .propagated)) (d .total)
             ∙ sym (d .difference);
-        least = rw (d .difference) (sub-le touched (d .again));
-        most = rw (d .total) (visited-most (d .others) (λ e s. not (eqb e c) && struck? slots e s) (d .beside .size ∙ x .visited-size) counted);
+        touched-is = record {
+          set = visitedTest (d .visited);
+          smallest = visited-smallest B shape (bytesIn heads rows) known killers slots (stored .recorded) (OwnStruck slots c) (OwnSlot c) struck seeded x (stored .off) begins;
+          size = d .total ∙ visited-count (d .others) (d .beside .size ∙ x .visited-size)
+              ∙ slots-same (visitedTest (d .others)) (λ e s. not (eqb e c) && visitedTest (d .visited) e s) (λ e s le ls. counted e s ls);
+        };
       }
     where
       x : Relaxed (bytesIn heads rows) (OwnStruck slots c) 255 (d .all) killers (d .revived) slots (d .opened) (d .visited) (d .pending)
@@ -235,13 +256,26 @@ module _ (B : Board) (shape : Shape B) (c : ℕ) (there : c < length (B .counts)
           (λ q lq e. stays-stable x q lq e (stable q lq)))
           (d .propagated)
 
-      -- a touched slot that is counted was struck, on another call
-      counted : (j : ℕ) → j < slotsLength → IsFlagged (d .others) j → T (not (eqb (j / 32) c) && struck? slots (j / 32) (j % 32))
-      counted j lj f =
-          let o = d .beside .only j f in
-          let at : 32 * (j / 32) + j % 32 ≡ j = omega arith in
-          →and (not (eqb (j / 32) c)) (struck? slots (j / 32) (j % 32)) (not-T (eqb (j / 32) c) (λ e. o .1 (eqb→eq (j / 32) c e)))
-          (lt→ltb (causeOf slots (j / 32) (j % 32)) 64 (rw at (was j (o .0))))
+      -- what is counted are the visited slots of other calls
+      counted : (e s : ℕ) → s < 32 → visitedTest (d .others) e s ≡ (not (eqb e c) && visitedTest (d .visited) e s)
+      counted e s ls = same-test (visitedTest (d .others) e s) (not (eqb e c) && visitedTest (d .visited) e s) to from
+        where
+          call : (32 * e + s) / 32 ≡ e
+          call = omega arith
+
+          to : T (visitedTest (d .others) e s) → T (not (eqb e c) && visitedTest (d .visited) e s)
+          to t =
+              let b = and→ (ltb s 32) (getD (d .others) (32 * e + s) false) t in
+              let o = d .beside .only (32 * e + s) (T→ (getD (d .others) (32 * e + s) false) (b .1)) in
+              →and (not (eqb e c)) (visitedTest (d .visited) e s) (not-T (eqb e c) (λ h. o .1 (call ∙ eqb→eq e c h)))
+              (→and (ltb s 32) (getD (d .visited) (32 * e + s) false) (b .0) (→T (getD (d .visited) (32 * e + s) false) (o .0)))
+
+          from : T (not (eqb e c) && visitedTest (d .visited) e s) → T (visitedTest (d .others) e s)
+          from t =
+              let a = and→ (not (eqb e c)) (visitedTest (d .visited) e s) t in
+              let b = and→ (ltb s 32) (getD (d .visited) (32 * e + s) false) (a .1) in
+              let f = d .beside .has (32 * e + s) (T→ (getD (d .visited) (32 * e + s) false) (b .1)) (λ h. T-not (eqb e c) (a .0) (→eqb e c (sym call ∙ h))) in
+              →and (ltb s 32) (getD (d .others) (32 * e + s) false) (b .0) (→T (getD (d .others) (32 * e + s) false) f)
 
       -- a slot that is not is as it was, or withdrawn
       kept : (j : ℕ) → (IsFlagged (d .others) j → ⊥) → (getD (d .left) j 0 ≡ getD slots j 0) ⊎ Neither (getD (d .left) j 0)
@@ -267,20 +301,8 @@ module _ (B : Board) (shape : Shape B) (c : ℕ) (there : c < length (B .counts)
             none-struck = open-not-struck-after B (cancelCall B c) weaker stored after;
           }
 
-  -- T IS EXACT: what is counted are the touched slots of other calls, all of them and no others; where no slot of the call is struck there is none
-  pub touched-exact : {killers′ slots′ : List ℕ} {reopened touched : ℕ} → (d : CancelReworked c n (bytesIn heads rows) killers killers′ slots slots′ reopened touched) → (j : ℕ)
-      → IsFlagged (d .others) j ↔ (Touched (bytesIn heads rows) killers slots (OwnStruck slots c) j × (j / 32 ≢ c))
-  touched-exact d j = (
-    λ f. let o = d .beside .only j f in (d .relaxed .touched j (o .0), o .1),
-    λ t. d .beside .has j (d .relaxed .all-touched (no-own-kill B shape (bytesIn heads rows) known killers slots (stored .recorded)) j (t .0)) (t .1),
-  )
-
-  pub quiet-untouched : {killers′ slots′ : List ℕ} {reopened touched : ℕ} → CancelQuiet c n killers killers′ slots slots′ reopened touched → (j : ℕ)
-      → Touched (bytesIn heads rows) killers slots (OwnStruck slots c) j → ⊥
-  quiet-untouched q j = reach-in (λ i. ⊥) (q .none) (λ i k p z. z)
-
   -- A CANCELLATION, either way
   pub cancel-stored : {killers′ slots′ : List ℕ} {reopened touched : ℕ} → CancelDone c n (bytesIn heads rows) killers killers′ slots slots′ reopened touched
-      → CancelStored B c heads rows killers′ slots slots′ reopened touched
+      → CancelStored B c heads rows killers killers′ slots slots′ reopened touched
   cancel-stored (inl q) = quiet-stored q
   cancel-stored (inr d) = reworked-stored d

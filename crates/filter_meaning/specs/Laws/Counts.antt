@@ -1,9 +1,9 @@
 -- The counts of the report, which go by call and slot, are those of the tables, which go along the bytes; and how many slots a relaxation reopens. Assumes nothing.
-use mathlib.Core.Path.{_≡_, refl, sym, ap, subst, _∙_}
+use mathlib.Core.Path.{_≡_, refl, sym, ap, _∙_}
 use mathlib.Core.Bool.{Bool, true, false, _&&_, cond}
 use mathlib.Core.List.{List, [], _∷_}
 use mathlib.Core.Logic.{_⊎_, inl, inr, ⊎-elim}
-use Prim.Native.Nat.{ℕ, zero, suc, _+_, _*_, _-_, _/_, _%_, _≤_, _<_}
+use Prim.Native.Nat.{ℕ, zero, suc, _+_, _*_, _-_, _/_, _%_, _<_}
 use native.Mathlib.Omega.{arith}
 use lib.ListN.{length, getD}
 use lib.Dec.{T}
@@ -18,9 +18,9 @@ use Rattle.layout.specs.Places.{causeOf}
 use Rattle.tables.specs.Laws.Lost.{lost-back}
 use Rattle.filter_propagate.specs.Laws.Strikes.{open-not-struck}
 use Rattle.tables.specs.Laws.Facts.{true-false, true-or-false}
-use Rattle.filter_propagate.specs.Queue.{IsFlagged}
 use Rattle.filter_relax.specs.Spread.{isVisited}
 use Rattle.filter_meaning.specs.Counts.{Neither, Reopening}
+use Rattle.filter_meaning.specs.Relaxing.{visitedTest}
 use Rattle.layout.specs.Sizes.{slotsLength}
 
 -- COUNTS BY INDEX AND ALONG A LIST
@@ -174,22 +174,14 @@ reopened-count slots left after visited again touched size r e t =
     less (reopenedBetween slots after) (lost isStruck isOpen slots after) (lost isOpen isStruck left after) (count isVisited visited) again touched
     (lost-reopened slots after size (r .again .len ∙ r .left-size ∙ size)) (reopening slots left after visited r) e t
 
--- and T is no more than the slots of which something holds that holds of every visited one
+-- AND T IS THE NUMBER OF SLOTS THAT THE TEST PASSES
 along-flags : (l : List Bool) → count isVisited l ≡ countBelow (length l) (λ i. getD l i false)
 along-flags [] = refl
 along-flags (x ∷ xs) = omega (arith, along-flags xs, count-first (length xs) (λ i. getD (x ∷ xs) i false))
 
-count-most : (n : ℕ) (f g : ℕ → Bool) → ((i : ℕ) → i < n → f i ≡ true → T (g i)) → countBelow n f ≤ countBelow n g
-count-most zero f g to = omega arith
-count-most (suc n) f g to = omega (arith, count-most n f g (λ i h. to i (omega arith)), one (f n) (g n) (to n (omega arith)))
-  where
-    one : (a b : Bool) → (a ≡ true → T b) → cond a 1 0 ≤ cond b 1 0
-    one true true h = omega arith
-    one true false h = absurd (h refl)
-    one false b h = omega arith
-
-pub visited-most : (visited : List Bool) (f : ℕ → ℕ → Bool) → length visited ≡ slotsLength → ((j : ℕ) → j < slotsLength → IsFlagged visited j → T (f (j / 32) (j % 32)))
-    → count isVisited visited ≤ slotCount f
-visited-most visited f size to =
-    subst (λ (n : ℕ). n ≤ slotCount f) (sym (along-flags visited ∙ ap (λ (n : ℕ). countBelow n (λ i. getD visited i false)) size))
-    (count-most slotsLength (λ i. getD visited i false) (λ i. f (i / 32) (i % 32)) to)
+pub visited-count : (visited : List Bool) → length visited ≡ slotsLength → count isVisited visited ≡ slotCount (visitedTest visited)
+visited-count visited size =
+    along-flags visited
+    ∙ ap (λ (n : ℕ). countBelow n (λ i. getD visited i false)) size
+    ∙ count-same slotsLength (λ i. getD visited i false) (λ i. visitedTest visited (i / 32) (i % 32))
+    (λ i h. let at : 32 * (i / 32) + i % 32 ≡ i = omega arith in rw (lt-ltb (i % 32) 32 (omega arith), at) refl)

@@ -1,4 +1,4 @@
--- WHAT A RELAXATION MEANS ON A BOARD, for any step to a weaker board: the touched slots are a closed set, and their reopening keeps the records sound on that board. A
+-- WHAT A RELAXATION MEANS ON A BOARD, for any step to a weaker board: the touched slots are the smallest closed set, and their reopening keeps the records sound on that board. A
 -- retraction and a cancellation are its two uses; they differ in the seed and in what else they write. Assumes nothing.
 use mathlib.Core.Path.{_≡_, refl, _∙_}
 use mathlib.Core.List.{List}
@@ -7,28 +7,29 @@ use mathlib.Core.Bool.{Bool, false}
 use Prim.Native.Nat.{ℕ, _+_, _*_, _/_, _%_, _≤_, _<_, min}
 use native.Mathlib.Omega.{arith}
 use lib.ListN.{length, getD, List·getD-eq-default}
-use lib.Dec.{eqb→eq, ltb→lt}
+use lib.Dec.{T, ltb, eqb→eq, ltb→lt, lt→ltb}
 use Rattle.layout.specs.declared.value.Heads.{Heads}
-use Rattle.model.specs.Board.{Rule, Board, callAt, slotAt, cancelledOn?, Cancelled, Live, OnBoard, InForce, Holds, Shape}
+use Rattle.model.specs.Board.{Rule, Board, callAt, slotAt, cancelledOn?, Cancelled, Live, OnBoard, InForce, Holds, Passing, Shape}
 use Rattle.model.specs.Records.{Struck, KillerIn, RingAt, Sound, Recorded}
-use Rattle.model.specs.Changes.{Weaker, Seeds, ClosedFor, Reopens}
+use Rattle.model.specs.Changes.{Weaker, Seeds, ClosedFor, Smallest, Reopens}
 use Rattle.model.specs.Report.{struckBetween}
 use Rattle.model.specs.Representation.{ruleAt, offByte, Stored}
-use Rattle.model.specs.Laws.Tests.{T?}
-use Rattle.model.specs.Laws.Theory.{live-not, not-live, on-live, active-below, rings-empty}
-use Rattle.model.specs.Laws.Change.{off-limits, weaker-viable, reopen-sound}
+use Rattle.model.specs.Laws.Tests.{T?, and→, →and, →T, T→}
+use Rattle.model.specs.Laws.Theory.{live-not, not-live, on-live, active-below, below-active, rings-empty}
+use Rattle.model.specs.Laws.Change.{number-below, on-range, byte-on, off-limits, weaker-viable, reopen-sound}
 use Rattle.filter_propagate.specs.Rules.{RuleBytes}
 use Rattle.filter_propagate.specs.Queue.{IsFlagged}
 use Rattle.filter_propagate.specs.Strikes.{isOpen, isStruck}
 use Rattle.filter_relax.specs.Reach.{seed, joins}
-use Rattle.filter_relax.specs.Touched.{NoOwnKill, Touched}
+use Rattle.filter_relax.specs.Touched.{NoOwnKill, Justifies, Touched}
 use Rattle.filter_relax.specs.Relaxed.{Relaxed}
+use Rattle.filter_relax.specs.Laws.Reach.{reach-in}
 use Rattle.filter_relax.specs.Laws.Relaxed.{touched-struck}
 use Rattle.layout.specs.Places.{rowCell, rowsOf, causeOf, killerOf, slotPlace}
 use Rattle.layout.specs.Sizes.{slotsLength}
 use Rattle.tables.specs.Laws.Facts.{true-or-false, true-false, lt-or-le}
 use Rattle.filter_meaning.specs.Rules.{RulesOf}
-use Rattle.filter_meaning.specs.Relaxing.{Visited}
+use Rattle.filter_meaning.specs.Relaxing.{Visited, visitedTest}
 use Rattle.filter_meaning.specs.Laws.Rules.{in-force, read-as}
 use Rattle.filter_meaning.specs.Laws.Counts.{none-counted}
 
@@ -133,6 +134,76 @@ module _ (B : Board) (shape : Shape B) (R : RuleBytes) (known : RulesOf B R) (ki
                 };
               };
             })
+
+    -- AND THEY ARE THE SMALLEST CLOSED SET, where the bytes' seed is the board's
+    module _ (off : (c s : ℕ) → c < 32 → s < 32 → (OnBoard B c s → ⊥) → causeOf slots c s ≡ offByte B c s)
+        (begins : (j : ℕ) → Bytes j → Struck B (causeOf slots) (j / 32) (j % 32) × Seed (j / 32) (j % 32)) where
+      -- a slot of a row whose cause is the row's rule joins by the row's killer
+      joins-by : (Z : ℕ → ℕ → Type 0) → ClosedFor B Seed (causeOf slots) (killerOf killers) Z → (q : ℕ) (r : Rule) → InForce B q r → (w k : ℕ) → w < length (r .rows) → k < length (r .scope)
+          → killerOf killers q w < length (r .scope) → slotAt r w k < 32 → causeOf slots (callAt r k) (slotAt r w k) ≡ q
+          → Z (callAt r (killerOf killers q w)) (slotAt r w (killerOf killers q w)) → Z (callAt r k) (slotAt r w k)
+      joins-by Z closed q r f w k lw lk lx ls e z =
+          let lq = number-below B shape q r f in
+          let b = read-as B shape R known q r f in
+          let lt : causeOf slots (callAt r k) (slotAt r w k) < 64 = omega arith in
+          let on = byte-on B (causeOf slots) off (callAt r k) (slotAt r w k) (b .call-below k lk) ls (inr lt) in
+          let active = ⊎-elim (λ d. absurd (omega (arith, d, shape .rules q r f .most))) (λ v. v .column) (rec .sound .killers q r f w lw) in
+          closed .more (callAt r k) (slotAt r w k) (on, lt) r (rw e f) w lw
+          (record { column = k; active = below-active B r k lk (on-live B (callAt r k) (slotAt r w k) on); call = refl; slot = refl })
+          (rw e (record { column = active; member = z }))
+
+      -- so a justified strike joins where the one that justifies it is in the set
+      justified : (Z : ℕ → ℕ → Type 0) → ClosedFor B Seed (causeOf slots) (killerOf killers) Z → (i j : ℕ) → Justifies R killers slots i j → Z (i / 32) (i % 32) → Z (j / 32) (j % 32)
+      justified Z closed i j p z =
+          let q = p .rule in
+          let w = p .by .row in
+          let y = p .by .by in
+          let k = y .held .0 in
+          let x = killerOf killers q w in
+          let u = in-force B shape R known q k (p .number) (y .held .1) in
+          let r = u .0 in
+          let b = read-as B shape R known q r (u .1) in
+          let good = shape .rules q r (u .1) in
+          let lw : w < length (r .rows) = omega (arith, p .by .inside, b .rows) in
+          let lk : k < length (r .scope) = omega (arith, y .held .1, b .columns) in
+          let lx : x < length (r .scope) = omega (arith, y .column, b .columns) in
+          let ls : slotAt r w k < 32 = omega (arith, good .slots w k lw lk, shape .counts (callAt r k) (good .scope k lk) .1) in
+          let lt : slotAt r w x < 32 = omega (arith, good .slots w x lw lx, shape .counts (callAt r x) (good .scope x lx) .1) in
+          let there : j ≡ slotPlace (callAt r k) (slotAt r w k) = y .held .2 .is ∙ b .place w k lw lk in
+          let from : i ≡ slotPlace (callAt r x) (slotAt r w x) = y .killer ∙ b .place w x lw lx in
+          let cause : causeOf slots (callAt r k) (slotAt r w k) ≡ q = rw there at (y .held .2 .cause) in
+          let jc : j / 32 ≡ callAt r k = omega arith in
+          let js : j % 32 ≡ slotAt r w k = omega arith in
+          let ic : i / 32 ≡ callAt r x = omega arith in
+          let is : i % 32 ≡ slotAt r w x = omega arith in
+          rw (jc, js) (joins-by Z closed q r (u .1) w k lw lk lx ls cause (rw (ic, is) at z))
+
+      -- and what is touched is in every closed set, also in one that has no test
+      pub visited-least : (Z : ℕ → ℕ → Type 0) → ClosedFor B Seed (causeOf slots) (killerOf killers) Z → (c s : ℕ) → s < 32 → Visited visited c s → Z c s
+      visited-least Z closed c s ls f =
+          let ic : (32 * c + s) / 32 ≡ c = omega arith in
+          let is : (32 * c + s) % 32 ≡ s = omega arith in
+          rw (ic, is) at
+          (reach-in (λ j. Z (j / 32) (j % 32)) (λ j y. let d = begins j y in closed .seed (j / 32) (j % 32) (d .0) (d .1)) (justified Z closed) (x .touched (32 * c + s) f))
+
+      pub visited-smallest : Smallest B Seed (causeOf slots) (killerOf killers) (visitedTest visited)
+      visited-smallest =
+          record {
+            closed = record {
+              seed = λ c s h e. tests c s (on-range B shape c s (h .0) .2) (visited-closed .seed c s h e);
+              more = λ c s h r f w lw hd k.
+                  tests c s (on-range B shape c s (h .0) .2)
+                  (visited-closed .more c s h r f w lw hd
+                  (record { column = k .column; member = told (callAt r (killerOf killers (causeOf slots c s) w)) (slotAt r w (killerOf killers (causeOf slots c s) w)) (k .member) .1 }));
+            };
+            least = λ g closed c s t. let v = told c s t in visited-least (Passing g) closed c s (v .0) (v .1);
+          }
+        where
+          tests : (c s : ℕ) → s < 32 → Visited visited c s → T (visitedTest visited c s)
+          tests c s ls f = →and (ltb s 32) (getD visited (32 * c + s) false) (lt→ltb s 32 ls) (→T (getD visited (32 * c + s) false) f)
+
+          told : (c s : ℕ) → T (visitedTest visited c s) → (s < 32) × Visited visited c s
+          told c s t = let b = and→ (ltb s 32) (getD visited (32 * c + s) false) t in (ltb→lt s 32 (b .0), T→ (getD visited (32 * c + s) false) (b .1))
 
     -- a row's killer is visited over the bytes exactly where its slot is on the board
     freed-killer : (q : ℕ) (r : Rule) → InForce B q r → (w : ℕ) → w < length (r .rows) → KillerIn B (killerOf killers) (Visited visited) r q w → killerOf revived q w ≡ 255

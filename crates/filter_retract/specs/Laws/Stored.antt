@@ -1,14 +1,12 @@
 -- A RETRACTION LEADS FROM A STORED BOARD TO A STORED BOARD without the rule, with S, R and T as they have to be. Assumes nothing.
 use mathlib.Core.Path.{_≡_, refl, sym, subst, _∙_}
 use mathlib.Core.List.{List}
-use mathlib.Core.Logic.{_⊎_, _≢_, inl, inr, ⊎-elim}
+use mathlib.Core.Logic.{_≢_, inl, inr, ⊎-elim}
 use mathlib.Core.Option.{none}
 use mathlib.Core.Bool.{Bool, false}
-use Prim.Native.Nat.{ℕ, _+_, _*_, _/_, _%_, _<_, _≤_, zero-le}
+use Prim.Native.Nat.{ℕ, _+_, _*_, _/_, _%_, _<_, _≤_}
 use native.Mathlib.Omega.{arith}
-use native.Mathlib.Nat.{sub-le}
 use lib.ListN.{length, getD, set, replicate, getD-replicate}
-use lib.Dec.{lt→ltb}
 use lib.Seq.{getD-set-other}
 use Rattle.layout.specs.declared.value.Heads.{Heads}
 use Rattle.layout.specs.Places.{callOf, causeOf, killerOf}
@@ -19,13 +17,13 @@ use Rattle.model.specs.Board.{Rule, Board, OnBoard, InForce, InScope, Shape}
 use Rattle.model.specs.Records.{Struck, Sound, Recorded}
 use Rattle.model.specs.Changes.{Weaker, Seeds, CauseIs}
 use Rattle.model.specs.Ledger.{withRule}
-use Rattle.model.specs.Report.{struck?}
 use Rattle.model.specs.Representation.{ruleAt, Headed, offByte, Stored}
-use Rattle.model.specs.Laws.Tests.{none-some}
+use Rattle.model.specs.Laws.Tests.{none-some, count-none}
 use Rattle.model.specs.Laws.Theory.{active-below, struck-caused}
 use Rattle.model.specs.Laws.Shapes.{shape-with}
 use Rattle.model.specs.Laws.Fresh.{empty-held}
-use Rattle.model.specs.Laws.Change.{on-range, retracted-from, retract-weaker, retract-seeds}
+use Rattle.model.specs.Laws.Touched.{smallest-none}
+use Rattle.model.specs.Laws.Change.{on-range, byte-on, retracted-from, retract-weaker, retract-seeds}
 use Rattle.filter_propagate.specs.Rules.{RuleBytes, reached}
 use Rattle.filter_propagate.specs.Strikes.{isOpen, isStruck}
 use Rattle.filter_propagate.specs.Stable.{StableBytes}
@@ -37,10 +35,11 @@ use Rattle.filter_relax.specs.Relaxed.{Relaxed}
 use Rattle.filter_relax.specs.Laws.Relaxed.{stays-stable}
 use Rattle.filter_meaning.specs.Rules.{RulesOf, bytesIn}
 use Rattle.filter_meaning.specs.Working.{Working}
+use Rattle.filter_meaning.specs.Relaxing.{visitedTest}
 use Rattle.filter_meaning.specs.Counts.{Reopening}
-use Rattle.filter_meaning.specs.Laws.Counts.{none-reopened, reopened-count, visited-most}
+use Rattle.filter_meaning.specs.Laws.Counts.{none-reopened, reopened-count, visited-count}
 use Rattle.filter_meaning.specs.Laws.Rules.{stored-rules, read-as}
-use Rattle.filter_meaning.specs.Laws.Relaxing.{visited-were-struck, relaxed-off, relaxed-spare, relaxed-sound, quiet-sound, open-not-struck-after, none-struck-between}
+use Rattle.filter_meaning.specs.Laws.Relaxing.{visited-smallest, visited-were-struck, relaxed-off, relaxed-spare, relaxed-sound, quiet-sound, open-not-struck-after, none-struck-between}
 use Rattle.filter_meaning.specs.Laws.Settled.{settled, at-rest, propagated-stored}
 use Rattle.filter_post.specs.Rules.{withRuleHeads}
 use Rattle.filter_post.specs.Laws.Rules.{rule-there, written-rules, written-headed, written-stable, empty-stable}
@@ -127,21 +126,26 @@ module _ (B : Board) (shape : Shape B) (p : ℕ) (lp : p < 64) (heads : Heads) (
 
   -- WHERE THE RULE STRUCK NOTHING, nothing reopens
   quiet-stored : {R′ : RuleBytes} {killers′ slots′ : List ℕ} {reopened touched : ℕ} → Quiet p (bytesIn heads rows) R′ killers killers′ slots slots′ reopened touched
-      → RetractStored B p heads R′ killers′ slots slots′ reopened touched
+      → RetractStored B p heads R′ killers killers′ slots slots′ reopened touched
   quiet-stored {R′} {killers′} {slots′} {reopened} {touched} q =
       record {
         stored = after;
         none-struck = none-struck-between B (withRule B p none) weaker stored after;
         reopened-is = none-reopened slots slots′ (stored .slots-size) (after .slots-size) (rw (q .slots-same) (only-none 0 isOpen isStruck open-not-struck slots)) ∙ sym (q .none-reopened);
-        least = rw (q .none-reopened) zero-le;
-        most = rw (q .none-touched) zero-le;
+        touched-is = record {
+          set = λ c s. false;
+          smallest = smallest-none B (CauseIs (causeOf slots) p) (causeOf slots) (killerOf killers) unseeded;
+          size = q .none-touched ∙ sym (count-none slotsLength (λ i. false) (λ i l. refl));
+        };
       }
     where
+      unseeded : (c s : ℕ) → Struck B (causeOf slots) c s → CauseIs (causeOf slots) p c s → ⊥
+      unseeded c s h e = q .none (32 * c + s) (caused-seeded B shape (bytesIn heads rows) known killers slots (stored .recorded) p lp c s h e)
+
       sound : Sound (withRule B p none) (causeOf slots) (killerOf killers′)
       sound =
           quiet-sound B (withRule B p none) weaker shape (CauseIs (causeOf slots) p) (causeOf slots) (causeOf slots) (killerOf killers) (killerOf killers′) seeds
-          (λ c s h e. q .none (32 * c + s) (caused-seeded B shape (bytesIn heads rows) known killers slots (stored .recorded) p lp c s h e))
-          (λ c s on. refl) (left-killers (q .cleared)) (stored .recorded .sound)
+          unseeded (λ c s on. refl) (left-killers (q .cleared)) (stored .recorded .sound)
 
       after : Stored (withRule B p none) (withRuleHeads heads R′) (R′ .rows) killers′ slots′
       after =
@@ -155,17 +159,19 @@ module _ (B : Board) (shape : Shape B) (p : ℕ) (lp : p < 64) (heads : Heads) (
 
   -- WHERE IT STRUCK SOMETHING, the touched slots reopen, less those that are struck again
   reworked-stored : {R′ : RuleBytes} {killers′ slots′ : List ℕ} {reopened touched : ℕ} → Reworked p (bytesIn heads rows) R′ killers killers′ slots slots′ reopened touched
-      → RetractStored B p heads R′ killers′ slots slots′ reopened touched
+      → RetractStored B p heads R′ killers killers′ slots slots′ reopened touched
   reworked-stored {R′} {killers′} {slots′} {reopened} {touched} d =
       record {
         stored = after;
         none-struck = none-struck-between B (withRule B p none) weaker stored after;
         reopened-is = reopened-count slots (d .opened) slots′ (d .visited) (d .again) touched (stored .slots-size) reopening (propagated-lost R′ (d .propagated)) (x .total)
             ∙ sym (d .difference);
-        least = rw (d .difference) (sub-le touched (d .again));
-        most = rw (x .total)
-            (visited-most (d .visited) (struck? slots) (x .visited-size)
-            (λ j lj f. let at : 32 * (j / 32) + j % 32 ≡ j = omega arith in lt→ltb (causeOf slots (j / 32) (j % 32)) 64 (rw at (was j f))));
+        touched-is = record {
+          set = visitedTest (d .visited);
+          smallest = visited-smallest B shape (bytesIn heads rows) known killers slots (stored .recorded) (CausedBy p (bytesIn heads rows) slots) (CauseIs (causeOf slots) p) struck seeded x
+              (stored .off) begins;
+          size = x .total ∙ visited-count (d .visited) (x .visited-size);
+        };
       }
     where
       x : Relaxed (bytesIn heads rows) (CausedBy p (bytesIn heads rows) slots) 255 touched killers (d .revived) slots (d .opened) (d .visited) (d .pending)
@@ -176,6 +182,15 @@ module _ (B : Board) (shape : Shape B) (p : ℕ) (lp : p < 64) (heads : Heads) (
 
       seeded : (c s : ℕ) → Struck B (causeOf slots) c s → CauseIs (causeOf slots) p c s → CausedBy p (bytesIn heads rows) slots (32 * c + s)
       seeded = caused-seeded B shape (bytesIn heads rows) known killers slots (stored .recorded) p lp
+
+      -- and what the seed has over the bytes is a struck slot with the cause p
+      begins : (j : ℕ) → CausedBy p (bytesIn heads rows) slots j → Struck B (causeOf slots) (j / 32) (j % 32) × CauseIs (causeOf slots) p (j / 32) (j % 32)
+      begins j z =
+          let at : 32 * (j / 32) + j % 32 ≡ j = omega arith in
+          let call : j / 32 < 32 = omega (arith, z .2 .1, z .2 .2 .is) in
+          let cause : causeOf slots (j / 32) (j % 32) ≡ p = rw at (z .2 .2 .cause) in
+          let lt : causeOf slots (j / 32) (j % 32) < 64 = omega (arith, cause, lp) in
+          ((byte-on B (causeOf slots) (stored .off) (j / 32) (j % 32) call (omega arith) (inr lt), lt), cause)
 
       was : (j : ℕ) → IsFlagged (d .visited) j → getD slots j 0 < 64
       was =
@@ -222,6 +237,6 @@ module _ (B : Board) (shape : Shape B) (p : ℕ) (lp : p < 64) (heads : Heads) (
 
   -- A RETRACTION, either way
   pub retract-stored : {R′ : RuleBytes} {killers′ slots′ : List ℕ} {reopened touched : ℕ} → RetractDone p (bytesIn heads rows) R′ killers killers′ slots slots′ reopened touched
-      → RetractStored B p heads R′ killers′ slots slots′ reopened touched
+      → RetractStored B p heads R′ killers killers′ slots slots′ reopened touched
   retract-stored (inl q) = quiet-stored q
   retract-stored (inr d) = reworked-stored d

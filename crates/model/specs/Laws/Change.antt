@@ -161,9 +161,8 @@ module _ (B B′ : Board) (weaker : Weaker B B′) where
   pub weaker-viable : (c s : ℕ) → Live B′ c → Viable B c s → Viable B′ c s
   weaker-viable = viable-mono B′ B weaker-at-least
 
-  -- THE REOPENING OF A CLOSED SET KEEPS THE RECORDS SOUND, on the weaker board
-  module _ (shape : Shape B) (Seed Z : ℕ → ℕ → Type 0) (test : (c s : ℕ) → Z c s ⊎ (Z c s → ⊥)) (cause cause′ killer killer′ : ℕ → ℕ → ℕ)
-      (seeds : Seeds B B′ cause Seed) (closed : ClosedFor B Seed cause killer Z) (re : Reopens B B′ Z cause cause′ killer killer′) (sound : Sound B cause killer) where
+  -- OUTSIDE A CLOSED SET the struck slots stay grounded on the weaker board
+  module _ (shape : Shape B) (Seed Z : ℕ → ℕ → Type 0) (cause killer : ℕ → ℕ → ℕ) (seeds : Seeds B B′ cause Seed) (closed : ClosedFor B Seed cause killer Z) (sound : Sound B cause killer) where
     Keep : ℕ → ℕ → Type 0
     Keep c s = Struck B cause c s × (Z c s → ⊥)
 
@@ -171,18 +170,21 @@ module _ (B B′ : Board) (weaker : Weaker B B′) where
     left : (c s : ℕ) → Struck B cause c s → (Z c s → ⊥) → Live B′ c
     left c s h n = seeds .live c s h (λ x. n (closed .seed c s h x))
 
-    -- a struck slot outside the set is grounded as it was: its cause's rows keep their killers, and these are outside too
-    still : {c s : ℕ} → Grounded B cause killer c s → Keep c s → Grounded B′ cause′ killer′ c s
+    -- such a slot is grounded as it was: its cause's rows keep their killers, and these are outside too
+    still : (cause′ killer′ : ℕ → ℕ → ℕ) → ((c s : ℕ) → OnBoard B′ c s → (Z c s → ⊥) → cause′ c s ≡ cause c s)
+        → ((q : ℕ) (r : Rule) → InForce B′ q r → (w : ℕ) → w < length (r .rows) → (KillerIn B killer Z r q w → ⊥) → killer′ q w ≡ killer q w)
+        → {c s : ℕ} → Grounded B cause killer c s → Struck B cause c s → (Z c s → ⊥) → Grounded B′ cause′ killer′ c s
     unfolding Keep
-    still =
+    still cause′ killer′ kept same g h n =
         keep-grounded B B′ cause cause′ killer killer′ Keep weaker-live (λ c s k l. left c s (k .0) (k .1))
-        (λ c s k r f. (re .kept c s (on-weaker c s (left c s (k .0) (k .1)) (k .0 .0)) (k .1), force c s k r f))
+        (λ c s k r f. (kept c s (on-weaker c s (left c s (k .0) (k .1)) (k .0 .0)) (k .1), force c s k r f))
         (λ c s k r f w lw hd lk.
         let q = cause c s in
         let out : KillerIn B killer Z r q w → ⊥ = λ z. k .1 (closed .more c s (k .0) r f w lw hd z) in (
-          re .same q r (force c s k r f) w lw out,
+          same q r (force c s k r f) w lw out,
           (struck q r f w lw lk (sound .killers q r f w lw), λ z. out (record { column = lk; member = z })),
         ))
+        g (h, n)
       where
         force : (c s : ℕ) → Struck B cause c s × (Z c s → ⊥) → (r : Rule) → InForce B (cause c s) r → InForce B′ (cause c s) r
         force c s k = seeds .force c s (k .0) (λ x. k .1 (closed .seed c s (k .0) x))
@@ -192,8 +194,15 @@ module _ (B B′ : Board) (weaker : Weaker B B′) where
         struck q r f w lw lk (inl e) = absurd (omega (arith, column-below B shape q r f (killer q w) lk))
         struck q r f w lw lk (inr k) = k .member
 
+    -- so a struck slot that is viable on the weaker board is in the set: R is at most T
+    pub reopened-in : (c s : ℕ) → Struck B cause c s → Viable B′ c s → (Z c s → ⊥) → ⊥
+    reopened-in c s h v n =
+        grounded-out B′ cause killer (still cause killer (λ d t on out. refl) (λ q r f w lw out. refl) (sound .grounded c s h) h n) (Passing (v .set)) (v .self) (v .has)
+
+  -- THE REOPENING OF A CLOSED SET KEEPS THE RECORDS SOUND, on the weaker board
+  module _ (shape : Shape B) (Seed Z : ℕ → ℕ → Type 0) (test : (c s : ℕ) → Z c s ⊎ (Z c s → ⊥)) (cause cause′ killer killer′ : ℕ → ℕ → ℕ)
+      (seeds : Seeds B B′ cause Seed) (closed : ClosedFor B Seed cause killer Z) (re : Reopens B B′ Z cause cause′ killer killer′) (sound : Sound B cause killer) where
     pub reopen-sound : Sound B′ cause′ killer′
-    unfolding Keep
     reopen-sound =
         record {
           either = λ c s on. ⊎-elim (λ z. inl (re .opened c s on z)) (λ n. rw (re .kept c s on n) (sound .either c s (weaker-on c s on))) (test c s);
@@ -205,7 +214,7 @@ module _ (B B′ : Board) (weaker : Weaker B B′) where
         ground c s h (inl z) = let lt = h .1 in absurd (omega (arith, re .opened c s (h .0) z))
         ground c s h (inr n) =
             let k : Struck B cause c s = (weaker-on c s (h .0), rw (re .kept c s (h .0) n) at (h .1)) in
-            still (sound .grounded c s k) (k, n)
+            still shape Seed Z cause killer seeds closed sound cause′ killer′ (re .kept) (re .same) (sound .grounded c s k) k n
 
         killed : (q : ℕ) (r : Rule) → InForce B′ q r → (w : ℕ) → w < length (r .rows) → (killer q w ≡ 255) ⊎ KillerIn B killer (Struck B cause) r q w
             → (killer′ q w ≡ 255) ⊎ KillerIn B′ killer′ (Struck B′ cause′) r q w
@@ -218,17 +227,12 @@ module _ (B B′ : Board) (weaker : Weaker B B′) where
             go (inr nz) =
                 let e = re .same q r f w lw (λ u. nz (u .member)) in
                 let m = k .member in
-                let l = left (callAt r (killer q w)) (slotAt r w (killer q w)) m nz in
+                let l = left shape Seed Z cause killer seeds closed sound (callAt r (killer q w)) (slotAt r w (killer q w)) m nz in
                 let on = on-weaker (callAt r (killer q w)) (slotAt r w (killer q w)) l (m .0) in
                 inr (record {
                   column = rw e (active-same B B′ r r (killer q w) refl (λ x. l) (k .column));
                   member = rw e (on, rw (re .kept (callAt r (killer q w)) (slotAt r w (killer q w)) on nz) (m .1));
                 })
-
-    -- a struck slot that is viable on the weaker board is in the set: R is at most T
-    pub reopened-in : (c s : ℕ) → Struck B cause c s → Viable B′ c s → Z c s
-    unfolding Keep
-    reopened-in c s h v = ⊎-elim (λ z. z) (λ n. absurd (grounded-out B′ cause′ killer′ (still (sound .grounded c s h) (h, n)) (Passing (v .set)) (v .self) (v .has))) (test c s)
 
     -- a rule that is stable stays so where the set has no slot in the columns that count: only rules on touched calls are pending
     pub reopen-stable : (p : ℕ) (r : Rule) → InForce B′ p r → ((k : ℕ) → Active B r k → (s : ℕ) → Z (callAt r k) s → ⊥) → Stable B cause killer p r → Stable B′ cause′ killer′ p r

@@ -148,7 +148,7 @@ module _ (lent : CommandLent) (s : MarkedState) (bytes : List ℕ) (c : Command)
             report = o .report;
             number = o .number ∙ sym (own L);
             values = o .values ∙ sym (ap (λ (m : ℕ). valuesAt m (reportValues (o .report))) (own L));
-            reported = λ e. subst (λ (r : Read). ReportsOf r (s .state) (after .state) (o .report)) (sym is) (o .reported (sym (own L) ∙ e));
+            reported = λ e. subst (λ (r : Read). ReportsOf (L .board) r (s .state) (after .state) (o .report)) (sym is) (o .reported (sym (own L) ∙ e));
             represents = subst (λ (K : Ledger). RepresentsMarked K after) (sym (stepped L)) (o .represents);
           }
         where

@@ -51,7 +51,7 @@ module _ (before : State) (c : Command) (ns : List ℕ) where
   -- accepted: on every such ledger none holds, the report is right, and the state after is the stepped ledger's
   pub promise-accepted : (after : State) (report : Report)
       → ((L : Ledger) → LedgerShape L → Represents L before
-      → (0 ≡ firstOf (kindConditions L c ns)) × Reports c before after report × Represents (effect L c ns) after)
+      → (0 ≡ firstOf (kindConditions L c ns)) × Reports (L .board) c before after report × Represents (effect L c ns) after)
       → KindPromise before c ns (answer.Accepted report) after
   promise-accepted after report check =
       record {
@@ -77,7 +77,7 @@ module _ (before : MarkedState) (c : Command) (ns : List ℕ) where
 
   pub marked-accepted : (after : MarkedState) (report : Report) → LeavesMarks c before after
       → ((L : Ledger) → LedgerShape L → RepresentsMarked L before
-      → (0 ≡ firstOf (kindConditions L c ns)) × Reports c (before .state) (after .state) report × RepresentsMarked (effect L c ns) after)
+      → (0 ≡ firstOf (kindConditions L c ns)) × Reports (L .board) c (before .state) (after .state) report × RepresentsMarked (effect L c ns) after)
       → MarkedPromise before c ns (answer.Accepted report) after
   marked-accepted after report left check =
       record {

@@ -3,7 +3,7 @@
 use mathlib.Core.Path.{_≡_, refl}
 use mathlib.Core.Bool.{Bool, not, _&&_}
 use mathlib.Core.Logic.{_⊎_, inl, inr}
-use Prim.Native.Nat.{ℕ, _<_, _/_, _%_}
+use Prim.Native.Nat.{ℕ, _+_, _*_, _<_, _≤_, _/_, _%_}
 use native.Mathlib.Omega.{arith}
 use lib.Dec.{T, eqb, ltb, eqb→eq, ltb→lt, lt→ltb, not-T, T-not}
 use Rattle.model.specs.Board.{slotsOn, OnBoard}
@@ -11,7 +11,7 @@ use Rattle.model.specs.Filter.{in?, openOf}
 use Rattle.model.specs.Ledger.{Ledger}
 use Rattle.model.specs.Report.{slotCount, open?, struck?, closed?, struckBetween, reopenedBetween, struckBeside, struckOf, reopenedOf}
 use Rattle.model.specs.Representation.{Represents}
-use Rattle.model.specs.Laws.Tests.{and→, →and, <?, →eqb, same-test, count-same}
+use Rattle.model.specs.Laws.Tests.{and→, →and, <?, →eqb, same-test, count-same, count-most, count-less}
 use Rattle.model.specs.Laws.Filter.{found-viable}
 use Rattle.model.specs.Laws.Change.{off-limits}
 use Rattle.layout.specs.Places.{causeOf}
@@ -51,6 +51,17 @@ module _ (L : Ledger) (s : State) (rep : Represents L s) (c t : ℕ) (lc : c < 3
 -- tests that agree on the slots of the memory count alike
 pub slots-same : (f g : ℕ → ℕ → Bool) → ((c t : ℕ) → c < 32 → t < 32 → f c t ≡ g c t) → slotCount f ≡ slotCount g
 slots-same f g same = count-same slotsLength (λ i. f (i / 32) (i % 32)) (λ i. g (i / 32) (i % 32)) (λ i h. same (i / 32) (i % 32) (omega arith) (omega arith))
+
+-- and one that passes wherever another does counts no fewer
+pub slots-most : (f g : ℕ → ℕ → Bool) → ((c t : ℕ) → c < 32 → t < 32 → T (f c t) → T (g c t)) → slotCount f ≤ slotCount g
+slots-most f g to = count-most slotsLength (λ i. f (i / 32) (i % 32)) (λ i. g (i / 32) (i % 32)) (λ i h. to (i / 32) (i % 32) (omega arith) (omega arith))
+
+pub slots-less : (f g : ℕ → ℕ → Bool) → ((c t : ℕ) → c < 32 → t < 32 → T (f c t) → T (g c t)) → (c t : ℕ) → c < 32 → t < 32 → (T (f c t) → ⊥) → T (g c t) → slotCount f < slotCount g
+slots-less f g to c t lc lt out has =
+    let call : (32 * c + t) / 32 ≡ c = omega arith in
+    let slot : (32 * c + t) % 32 ≡ t = omega arith in
+    count-less slotsLength (λ i. f (i / 32) (i % 32)) (λ i. g (i / 32) (i % 32)) (λ i h. to (i / 32) (i % 32) (omega arith) (omega arith)) (32 * c + t) (omega arith)
+    (rw (call, slot) out) (rw (call, slot) has)
 
 -- the slots struck on calls other than c, by the board
 pub struck-beside : (L : Ledger) (s : State) → Represents L s → (c : ℕ)

@@ -110,6 +110,31 @@ pub count-add : (m k : ℕ) (f : ℕ → Bool) → countBelow (m + k) f ≡ coun
 count-add m zero f = rw (add-zero m) (omega arith)
 count-add m (suc k) f = rw (add-suc m k, count-add m k f) (omega arith)
 
+-- a test that passes wherever another does counts no fewer, and more where it passes at a number at which the other does not
+one-most : (a b : Bool) → (T a → T b) → cond a 1 0 ≤ cond b 1 0
+one-most true true h = omega arith
+one-most true false h = absurd (h tt)
+one-most false b h = omega arith
+
+one-more : (a b : Bool) → (T a → ⊥) → T b → cond a 1 0 < cond b 1 0
+one-more true b h t = absurd (h tt)
+one-more false true h t = omega arith
+one-more false false h t = absurd t
+
+pub count-most : (n : ℕ) (f g : ℕ → Bool) → ((i : ℕ) → i < n → T (f i) → T (g i)) → countBelow n f ≤ countBelow n g
+count-most zero f g to = omega arith
+count-most (suc n) f g to = omega (arith, count-most n f g (λ i h. to i (omega arith)), one-most (f n) (g n) (to n (omega arith)))
+
+pub count-less : (n : ℕ) (f g : ℕ → Bool) → ((i : ℕ) → i < n → T (f i) → T (g i)) → (i : ℕ) → i < n → (T (f i) → ⊥) → T (g i) → countBelow n f < countBelow n g
+count-less zero f g to i l out has = absurd (omega arith)
+count-less (suc n) f g to i l out has =
+    ⊎-elim
+    (λ (h : i < n). omega (arith, count-less n f g (λ j k. to j (omega arith)) i h out has, one-most (f n) (g n) (to n (omega arith))))
+    (λ (le : n ≤ i).
+    let e : i ≡ n = omega arith in
+    omega (arith, count-most n f g (λ j h. to j (omega arith)), one-more (f n) (g n) (rw e at out) (rw e at has)))
+    (lt-or-le i n)
+
 -- a count is no more than the numbers it looks at
 pub count-bound : (n : ℕ) (f : ℕ → Bool) → countBelow n f ≤ n
 count-bound zero f = omega arith

@@ -1,42 +1,45 @@
 -- WHAT THE PROMISE TURNS AWAY. For each wrong board of SCOPE 10.3, for the wrong turns of SCOPE 9 that P3, P4 and P5 show, and for wrong tables: no state, table and
 -- answer after a sample's commands meet both the promise and the wrong behaviour. Assumes nothing.
 use mathlib.Core.Path.{_≡_, refl, sym, ap, subst, _∙_}
-use mathlib.Core.Bool.{Bool, true, false, true≢false, not, _&&_}
+use mathlib.Core.Bool.{Bool, true, false, true≢false, not, _&&_, _||_}
 use mathlib.Core.List.{List, [], _∷_, map}
-use mathlib.Core.Logic.{_≢_, _⊎_, inl, inr}
+use mathlib.Core.Logic.{_≢_, _⊎_, inl, inr, ⊎-elim}
 use mathlib.Core.Option.{Option, none, some}
 use Prim.Native.Nat.{ℕ, zero, suc, _+_, _≤_, _<_}
 use native.Mathlib.Omega.{arith}
 use lib.ListN.{length, getD}
-use lib.Dec.{T, eqb, lit<, T-not}
+use lib.Dec.{T, eqb, ltb, lit<, eqb→eq, ltb→lt, lt→ltb, not-T, T-not}
 use borrow.Author.Tests.{ne-eqb}
 use Rattle.model.specs.declared.answer.Report.{Report}
 use Rattle.model.specs.declared.answer.Answer.{Answer}
 use Rattle.model.specs.declared.answer.Answer.the-variants as answer
 use Rattle.model.specs.declared.answer.OpenSlots.{OpenSlots}
 use Rattle.model.specs.declared.answer.Support.the-variants as support
-use Rattle.model.specs.Board.{Rule, Board, callAt, slotAt, OnBoard, active?}
+use Rattle.model.specs.Board.{Rule, Board, callAt, slotAt, OnBoard, InForce, active?, Active, Holds, Passing, Viable}
 use Rattle.model.specs.Records.{Struck, Grounded, because}
-use Rattle.model.specs.Tests.{countBelow, has}
+use Rattle.model.specs.Changes.{CauseIs, ClosedFor}
+use Rattle.model.specs.Tests.{every?, countBelow, has, isNone}
 use Rattle.model.specs.Filter.{in?, inScope?, all?, openOf}
 use Rattle.model.specs.Commands.{readAt}
-use Rattle.model.specs.Ledger.{LedgerShape, refusal, step, member, lengths}
-use Rattle.model.specs.Report.{slotCount, open?, closed?, struckBeside}
-use Rattle.model.specs.Representation.{Represents, ruleOr, ruleAt}
+use Rattle.model.specs.Ledger.{Ledger, LedgerShape, withRule, refusal, obey, step, member, lengths}
+use Rattle.model.specs.Report.{slotCount, open?, closed?, reopenedBetween, struckBeside, RetractTouched}
+use Rattle.model.specs.Representation.{Stored, Represents, ruleOr, ruleAt}
 use Rattle.model.specs.Summary.{ruleOn?, recordOf, Current}
 use Rattle.model.specs.Promise.{Answered, ReportsOf, valuesAt, reportValues}
 use Rattle.model.specs.Questions.{maskOf, callConditions, slotsValues, SlotsPromise, supportConditions, SupportPromise}
-use Rattle.model.specs.Samples.{Outcome, Sample, Right, ledgerBefore, ledgerLast, p1, p2, p3, p4Retract, p5, p6, c1}
-use Rattle.model.specs.Laws.Tests.{→and}
-use Rattle.model.specs.Laws.Theory.{one-rule, numbered}
+use Rattle.model.specs.Samples.{Outcome, Sample, Right, retractBytes, ledgerBefore, ledgerLast, p1, p2, p3, p4Retract, p5, p6, c1}
+use Rattle.model.specs.Laws.Tests.{and→, →and, or→, every→}
+use Rattle.model.specs.Laws.Theory.{active-below, one-rule, numbered, grounded-out}
+use Rattle.model.specs.Laws.Change.{on-range}
 use Rattle.model.specs.Laws.Filter.{found-viable, within→, →onCall, all→}
 use Rattle.model.specs.Laws.Lists.{IsOf, is-lengths, promise-keeps, runs-represent}
 use Rattle.model.specs.Laws.Answers.{accepted-by}
 use Rattle.model.specs.Laws.Samples.{samples-right}
 use Rattle.model.specs.Laws.Masks.{mask-same}
-use Rattle.model.specs.Laws.Reports.{open-in, struck-beside, struck-between, reopened-between}
+use Rattle.model.specs.Laws.Reports.{open-in, struck-closed, slots-most, struck-beside, struck-between, reopened-between}
+use Rattle.model.specs.Laws.Touched.{retract-least, touched-most}
 use Rattle.layout.specs.Places.{causeOf, killerOf}
-use Rattle.layout.specs.Memory.{Whole, lentOf, lentWith}
+use Rattle.layout.specs.Memory.{State, Whole, lentOf, lentWith}
 use Rattle.layout.specs.declared.summary.Summary.{Summary}
 use Rattle.layout.specs.Summary.{noSummary, noRecords}
 use Rattle.layout.specs.Sizes.{Lent, CommandLent, recordsLength}
@@ -66,6 +69,89 @@ two-causes B cause killer {a} {b} none-on-both (because r f o k g) (because r′
     let one : r′ ≡ r = one-rule B (cause 0 a) (rw (← same) at f′) f in
     let out : T (not (onBoth B (some r))) = rw f at (all→ (λ o. not (onBoth B o)) (B .rules) none-on-both (cause 0 a) (numbered B (cause 0 a) r f)) in
     T-not (inScope? B r 0 && inScope? B r 2) out (→and (inScope? B r 0) (inScope? B r 2) (→onCall B r 0 o) (→onCall B r 2 (rw one at o′)))
+
+-- THE RULES OF P3's BOARD, which is that after P2
+abbrev ruleZero : Rule
+ruleZero = record { scope = 0 ∷ 1 ∷ []; rows = (0 ∷ 1 ∷ []) ∷ (0 ∷ 2 ∷ []) ∷ (1 ∷ 2 ∷ []) ∷ [] }
+
+abbrev ruleOne : Rule
+ruleOne = record { scope = 1 ∷ 2 ∷ []; rows = (1 ∷ 0 ∷ []) ∷ (0 ∷ 1 ∷ []) ∷ [] }
+
+-- where they are the only rules in force and slot 0 of call 0 is open, no row of the cause of slot 2 of call 1 holds it: rule 0's row (0, 2) could only be killed by that
+-- slot itself, and rule 1 has no such row
+module _ (B : Board) (cause killer : ℕ → ℕ → ℕ) (zero-force : InForce B 0 ruleZero) (one-force : InForce B 1 ruleOne) (only : (p : ℕ) (r : Rule) → InForce B p r → (p ≡ 0) ⊎ (p ≡ 1))
+    (counts : Active B ruleZero 1) (living : Viable B 0 0) where
+  not-by-zero : {c t : ℕ} → Grounded B cause killer c t → c ≡ 1 → t ≡ 2 → cause c t ≡ 0 → ⊥
+  not-by-zero {c} {t} (because r f o k g) ec et e =
+      let same : r ≡ ruleZero = one-rule B 0 (rw e at f) zero-force in
+      let hd : Holds B r 1 c t = rw (same, ec, et) (record { column = 1; active = counts; call = refl; slot = refl }) in
+      let lw : 1 < length (r .rows) = rw same (lit< tt) in
+      let lk : killer (cause c t) 1 < length (r .scope) = active-below B r (killer (cause c t) 1) (k 1 lw hd) in
+      go (killer (cause c t) 1) (rw same at lk) (λ ej. out (rw (ej, same) at (g 1 lw hd))) (λ ej. not-by-zero (g 1 lw hd) (rw (ej, same) refl) (rw (ej, same) refl) (rw (ej, same, ← ec, ← et) e))
+    where
+      out : Grounded B cause killer 0 0 → ⊥
+      out h = grounded-out B cause killer h (Passing (living .set)) (living .self) (living .has)
+
+      go : (j : ℕ) → j < 2 → (j ≡ 0 → ⊥) → (j ≡ 1 → ⊥) → ⊥
+      go zero l a b = a refl
+      go (suc zero) l a b = b refl
+      go (suc (suc j)) l a b = absurd (omega arith)
+
+  held-by-none : Grounded B cause killer 1 2 → (r : Rule) → InForce B (cause 1 2) r → (w : ℕ) → w < length (r .rows) → Holds B r w 1 2 → ⊥
+  held-by-none h r f w lw hd = ⊎-elim (λ e. not-by-zero h refl refl e) (λ e. one (one-rule B 1 (rw e at f) one-force)) (only (cause 1 2) r f)
+    where
+      one : r ≡ ruleOne → ⊥
+      one same = row w (hd .column) (rw same at lw) (rw same at (active-below B r (hd .column) (hd .active))) (rw same at (hd .call)) (rw same at (hd .slot))
+        where
+          row : (w k : ℕ) → w < 2 → k < 2 → callAt ruleOne k ≡ 1 → slotAt ruleOne w k ≡ 2 → ⊥
+          row zero zero l h e d = absurd (omega (arith, d))
+          row (suc zero) zero l h e d = absurd (omega (arith, d))
+          row w (suc zero) l h e d = absurd (omega (arith, e))
+          row (suc (suc w)) zero l h e d = absurd (omega arith)
+          row w (suc (suc k)) l h e d = absurd (omega arith)
+
+-- of so many rules each number is 0 or 1, by a test over the list
+only-two : (B : Board) → T (every? 64 (λ p. ltb p 2 || isNone (getD (B .rules) p none))) → length (B .rules) ≡ 64 → (p : ℕ) (r : Rule) → InForce B p r → (p ≡ 0) ⊎ (p ≡ 1)
+only-two B each size p r f =
+    ⊎-elim (λ l. small p (ltb→lt p 2 l)) (λ n. absurd (rw f at n))
+    (or→ (ltb p 2) (isNone (getD (B .rules) p none)) (every→ 64 (λ p. ltb p 2 || isNone (getD (B .rules) p none)) each p (omega (arith, numbered B p r f))))
+  where
+    small : (p : ℕ) → p < 2 → (p ≡ 0) ⊎ (p ≡ 1)
+    small zero l = inl refl
+    small (suc zero) l = inr refl
+    small (suc (suc p)) l = absurd (omega arith)
+
+-- SO A LIFT OF RULE 0 THERE touches at most the struck slots but that one
+abbrev butOne : Board → ℕ → ℕ → Bool
+butOne B c t = closed? B (openOf B) c t && not (eqb c 1 && eqb t 2)
+
+module _ (L : Ledger) (shape : LedgerShape L) (s : State) (rep : Represents L s) (zero-force : InForce (L .board) 0 ruleZero) (one-force : InForce (L .board) 1 ruleOne)
+    (only : (p : ℕ) (r : Rule) → InForce (L .board) p r → (p ≡ 0) ⊎ (p ≡ 1)) (counts : Active (L .board) ruleZero 1) (living : Viable (L .board) 0 0) where
+  but-one : (c t : ℕ) → Struck (L .board) (causeOf (s .slots)) c t → (c ≡ 1 → t ≡ 2 → ⊥) → T (butOne (L .board) c t)
+  but-one c t h apart =
+      let range = on-range (L .board) (shape .board) c t (h .0) in
+      →and (closed? (L .board) (openOf (L .board)) c t) (not (eqb c 1 && eqb t 2))
+      (subst (λ (b : Bool). T b) (struck-closed L s rep c t (range .1) (range .2)) (lt→ltb (causeOf (s .slots) c t) 64 (h .1)))
+      (not-T (eqb c 1 && eqb t 2) (λ b. let d = and→ (eqb c 1) (eqb t 2) b in apart (eqb→eq c 1 (d .0)) (eqb→eq t 2 (d .1))))
+
+  grounded-at : {c t : ℕ} → Struck (L .board) (causeOf (s .slots)) c t → c ≡ 1 → t ≡ 2 → Grounded (L .board) (causeOf (s .slots)) (killerOf (s .killers)) 1 2
+  grounded-at h ec et = rep .stored .recorded .sound .grounded 1 2 (rw (ec, et) at h)
+
+  but-one-closed : ClosedFor (L .board) (CauseIs (causeOf (s .slots)) 0) (causeOf (s .slots)) (killerOf (s .killers)) (Passing (butOne (L .board)))
+  but-one-closed =
+      record {
+        seed = λ c t h e. but-one c t h
+            (λ ec et. not-by-zero (L .board) (causeOf (s .slots)) (killerOf (s .killers)) zero-force one-force only counts living (grounded-at h ec et) refl refl (rw (ec, et) at e));
+        more = λ c t h r f w lw hd k. but-one c t h
+            (λ ec et. held-by-none (L .board) (causeOf (s .slots)) (killerOf (s .killers)) zero-force one-force only counts living (grounded-at h ec et) r (rw (ec, et) at f) w lw (rw (ec, et) at hd));
+      }
+
+  but-one-most : {n : ℕ} → RetractTouched (L .board) 0 (s .killers) (s .slots) n → n ≤ slotCount (butOne (L .board))
+  but-one-most x = rw (x .size) (slots-most (λ c t. true && x .set c t) (butOne (L .board)) (λ c t lc lt i. x .smallest .least (butOne (L .board)) but-one-closed c t i))
+
+-- a lift of rule 0 that is not refused takes it out of force
+lifted : (L : Ledger) → refusal L lengths (retractBytes 0) ≡ 0 → step L lengths (retractBytes 0) .board ≡ withRule (L .board) 0 none
+lifted L e = ap (λ (n : ℕ). obey n L (readAt (retractBytes 0) 0 .read) (readAt (retractBytes 0) 0 .counts) .board) e
 
 -- the columns of all rules
 abbrev pub columnCount : List (Option Rule) → ℕ
@@ -137,7 +223,7 @@ module _ (x : Sample) (s : Whole) (given : Answer) (s′ : Whole) (last : Last x
   lent-after = ap (λ (l : CommandLent). l .buffers) (is-lengths (ledgerLast x) s′ is-after)
 
   -- a value of which the report of what was read says n is n in the answer
-  told : (value : Report → ℕ) (n : ℕ) → ((r : Report) → ReportsOf (readAt (x .last) 0 .read) (s .marked .state) (s′ .marked .state) r → value r ≡ n) → Right x → x .outcome .refused ≡ 0
+  told : (value : Report → ℕ) (n : ℕ) → ((r : Report) → ReportsOf (ledgerBefore x .board) (readAt (x .last) 0 .read) (s .marked .state) (s′ .marked .state) r → value r ≡ n) → Right x → x .outcome .refused ≡ 0
       → (r : Report) → given ≡ answer.Accepted r → value r ≡ n
   told value n says right accepted r e =
       let d = accepted-is right accepted in
@@ -234,6 +320,24 @@ module _ (s : Whole) (given : Answer) (s′ : Whole) where
       ∙ ap (λ (o : Outcome). o .reopened) (right-p3 .outcome))
       right-p3 refl r e)
 
+  -- ONE WHOSE T IS LOOSE: before P3's lift five slots are struck, and one of them stands in no row of its cause
+  pub not-loose-touched : Last p3 s given s′ → (r : Report) → given ≡ answer.Accepted r → r .touched ≢ 4 → ⊥
+  unfolding active?
+  not-loose-touched last r e wrong =
+      wrong (told p3 s given s′ last (λ r. r .touched) 4
+      (λ r w. between (reopenedBetween (s .marked .state .slots) (s′ .marked .state .slots)) (r .touched)
+      (reopened-between (ledgerBefore p3) (ledgerLast p3) (s .marked .state) (s′ .marked .state) (is p3 s given s′ last .1 .state) (after p3 s given s′ last)
+      ∙ ap (λ (o : Outcome). o .reopened) (right-p3 .outcome))
+      (retract-least (ledgerBefore p3 .board) (is p3 s given s′ last .0 .board) 0 (lit< tt) (is p3 s given s′ last .1 .state .stored)
+      (subst (λ (B : Board). Stored B (s′ .marked .state .value .heads) (s′ .marked .state .rows) (s′ .marked .state .killers) (s′ .marked .state .slots))
+      (lifted (ledgerBefore p3) (ap (λ (o : Outcome). o .refused) (right-p3 .outcome))) (after p3 s given s′ last .stored)) (w .own .touched))
+      (but-one-most (ledgerBefore p3) (is p3 s given s′ last .0) (s .marked .state) (is p3 s given s′ last .1 .state) refl refl (only-two (ledgerBefore p3 .board) tt refl) tt
+      (found-viable (ledgerBefore p3 .board) 0 0 .0 tt) (w .own .touched)))
+      right-p3 refl r e)
+    where
+      between : (back t : ℕ) → back ≡ 4 → back ≤ t → t ≤ 4 → t ≡ 4
+      between back t e l m = omega arith
+
   -- ONE THAT COUNTS THE CANCELLED CALL'S OWN SLOTS IN T: before C1 three slots of other calls were struck
   pub not-own-touched : Last c1 s given s′ → (r : Report) → given ≡ answer.Accepted r → 3 < r .touched → ⊥
   unfolding active?
@@ -241,7 +345,7 @@ module _ (s : Whole) (given : Answer) (s′ : Whole) where
       let d = accepted-is c1 s given s′ last right-c1 refl in
       let q : answered c1 s given s′ last .report ≡ r = cc in
       let w = answered c1 s given s′ last .reported (refusal-is c1 s given s′ last right-c1) in
-      below (r .touched) (struckBeside 1 (s .marked .state .slots)) 3 more (rw q at (w .own .most))
+      below (r .touched) (struckBeside 1 (s .marked .state .slots)) 3 more (touched-most (rw q at (w .own .touched)))
       (struck-beside (ledgerBefore c1) (s .marked .state) (is c1 s given s′ last .1 .state) 1 ∙ three)
     where
       below : (t b n : ℕ) → n < t → t ≤ b → b ≡ n → ⊥

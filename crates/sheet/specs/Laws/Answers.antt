@@ -10,6 +10,7 @@ use Rattle.model.specs.declared.answer.Answer.{Answer}
 use Rattle.model.specs.declared.answer.Answer.the-variants as answer
 use Rattle.model.specs.declared.command.Command.{Command}
 use Rattle.model.specs.declared.command.Read.the-variants as found
+use Rattle.model.specs.Board.{Board}
 use Rattle.model.specs.Commands.{kindOf}
 use Rattle.model.specs.Ledger.{Ledger, kindConditions, effect, obey}
 use Rattle.model.specs.Report.{struckBetween, reopenedBetween, changesSlots?, struckBy, reopenedBy, Reports}
@@ -30,13 +31,13 @@ few-or-none : (b : Bool) (before after : List ℕ) → cond b (struckBetween bef
 few-or-none true before after = changes-few before after
 few-or-none false before after = omega arith
 
-reported-short : (before after : State) (q : Report) (c : Command) → Reports c before after q → ShortAnswer (answer.Accepted q)
-reported-short before after q c r =
+reported-short : (B : Board) (before after : State) (q : Report) (c : Command) → Reports B c before after q → ShortAnswer (answer.Accepted q)
+reported-short B before after q c r =
     record { together = rw (r .struck, r .reopened) (few-or-none (changesSlots? c) (before .slots) (after .slots)) }
 
 -- and those of the boards before and after
 module _ (L : Ledger) (s s′ : State) (ns : List ℕ) (rep : Represents L s) (q : Report) where
-  reported-same : (c : Command) → Represents (effect L c ns) s′ → Reports c s s′ q
+  reported-same : (c : Command) → Represents (effect L c ns) s′ → Reports (L .board) c s s′ q
       → (q .struck ≡ struckBy c (L .board) (effect L c ns .board)) × (q .reopened ≡ reopenedBy c (L .board) (effect L c ns .board))
   reported-same c rep′ r = (
     r .struck ∙ ap (λ (n : ℕ). cond (changesSlots? c) n 0) (struck-between L (effect L c ns) s s′ rep rep′),
@@ -66,7 +67,7 @@ module _ (L : Ledger) (m m′ : MarkedState) (c : Command) (ns : List ℕ) (rep 
   pub answer-line : answerLine c given ≡ decisionLine refusal c (L .board) (next refusal .board)
   answer-line = ap (answerLine c) is ∙ go refusal refl (o .reported) (o .represents)
     where
-      go : (n : ℕ) → refusal ≡ n → (n ≡ 0 → Reports c (m .state) (m′ .state) (o .report)) → RepresentsMarked (next n) m′
+      go : (n : ℕ) → refusal ≡ n → (n ≡ 0 → Reports (L .board) c (m .state) (m′ .state) (o .report)) → RepresentsMarked (next n) m′
           → answerLine c (answerBy n (o .report)) ≡ decisionLine n c (L .board) (next n .board)
       go zero z reported rep′ =
           let same = reported-same L (m .state) (m′ .state) ns (rep .state) (o .report) c (rep′ .state) (reported refl) in
@@ -77,6 +78,6 @@ module _ (L : Ledger) (m m′ : MarkedState) (c : Command) (ns : List ℕ) (rep 
   pub answer-short : ShortAnswer given
   answer-short = subst (λ (a : Answer). ShortAnswer a) (sym is) (go refusal (o .reported))
     where
-      go : (n : ℕ) → (n ≡ 0 → Reports c (m .state) (m′ .state) (o .report)) → ShortAnswer (answerBy n (o .report))
-      go zero reported = reported-short (m .state) (m′ .state) (o .report) c (reported refl)
+      go : (n : ℕ) → (n ≡ 0 → Reports (L .board) c (m .state) (m′ .state) (o .report)) → ShortAnswer (answerBy n (o .report))
+      go zero reported = reported-short (L .board) (m .state) (m′ .state) (o .report) c (reported refl)
       go (suc n) reported = record { together = omega arith }
