@@ -71,6 +71,14 @@ extern "C" {
 #define BERTH_SLOTS 1024
 #define BERTH_MARKS 43008
 
+/* The bytes of slots that have no cause, in the buffer and in the answer on a slot's state. */
+#define BERTH_SLOT_OPEN 255
+#define BERTH_SLOT_ABSENT 254 /* not on the board; in an answer, refused */
+#define BERTH_SLOT_CANCELLED 253
+
+/* A row's killer where it lives, the row where there is no support, and a field past the arity. */
+#define BERTH_NONE 255
+
 /* Value and names together, struct berth_marked_value. */
 #define BERTH_VALUE_SIZE 1513
 
@@ -145,9 +153,10 @@ enum berth_refusal {
     BERTH_CANCELLED_CALL = 29
 };
 
-/* The condition that a refusal's number stands for. */
+/* The condition that a refusal's number stands for; of 0, that there was none. */
 static inline const char *berth_refusal_text(uint8_t number) {
     switch (number) {
+    case 0: return "accepted";
     case BERTH_BUFFER_LENGTH: return "a buffer is not of its length";
     case BERTH_FILE_LENGTH: return "the input is over 32,768 bytes";
     case BERTH_UNKNOWN_KIND: return "no kind has this number, or there is no byte at all";
@@ -300,7 +309,7 @@ struct berth_slots_reply berth_open_slots(struct berth_value value, const uint8_
 /* The state of a slot. Checked: 1, 6, 18, 19. */
 struct berth_state_reply {
     uint8_t number; /* 0, or the refusal */
-    uint8_t cause;  /* 255 open; 253 cancelled, with its call; else the cause; 254 where refused */
+    uint8_t cause;  /* BERTH_SLOT_OPEN; BERTH_SLOT_CANCELLED, with its call; else the cause; BERTH_SLOT_ABSENT where refused */
 };
 
 struct berth_state_reply berth_slot_state(struct berth_value value, const uint8_t *rows, size_t rows_length, const uint8_t *killers, size_t killers_length,
@@ -309,7 +318,7 @@ struct berth_state_reply berth_slot_state(struct berth_value value, const uint8_
 /* A row of a rule. Checked: 1, 6, 7, 17, 20. */
 struct berth_row_reply {
     uint8_t number; /* 0, or the refusal */
-    uint8_t killer; /* 255 alive; else the killer's column; 254 where refused */
+    uint8_t killer; /* BERTH_NONE where the row lives; else the killer's column; 254 where refused */
 };
 
 struct berth_row_reply berth_row_state(struct berth_value value, const uint8_t *rows, size_t rows_length, const uint8_t *killers, size_t killers_length,
@@ -327,7 +336,7 @@ struct berth_place_reply berth_row_place(struct berth_value value, const uint8_t
 /* The lowest-numbered living row of the rule with the slot in the column: one answer for one board, however it came about. Checked: 1, 6, 7, 17, 21, 19. */
 struct berth_support_reply {
     uint8_t number; /* 0, or the refusal */
-    uint8_t row;    /* the row's number; 255 where there is none, as in every column of a cancelled call; 254 where refused */
+    uint8_t row;    /* the row's number; BERTH_NONE where there is none, as in every column of a cancelled call; 254 where refused */
 };
 
 struct berth_support_reply berth_support(struct berth_value value, const uint8_t *rows, size_t rows_length, const uint8_t *killers, size_t killers_length,
@@ -375,7 +384,8 @@ static inline struct berth_command_reply berth_board_command(struct berth_board 
 }
 
 /*
- * The bytes of a command. Too many fields for its kind make it one byte too long, and the board refuses it (BERTH_BODY_LENGTH).
+ * The bytes of a command. Too many counts or slots make it one byte too long, and the board refuses it (BERTH_BODY_LENGTH); a head of more than four calls it
+ * refuses for its arity (BERTH_BAD_ARITY).
  */
 struct berth_command_bytes {
     size_t length;
@@ -408,15 +418,15 @@ static inline struct berth_command_bytes berth_make_board(const uint8_t *counts,
 
 /* The start of a draft: the rule's number, and the calls of its columns. */
 static inline struct berth_command_bytes berth_make_head(uint8_t number, const uint8_t *calls, size_t arity) {
-    struct berth_command_bytes made = berth_make_blank(BERTH_HEAD, 7, 255);
+    struct berth_command_bytes made = berth_make_blank(BERTH_HEAD, 7, BERTH_NONE);
     made.bytes[1] = number;
-    made.bytes[2] = (uint8_t)arity;
-    return berth_make_filled(made, 3, calls, arity);
+    made.bytes[2] = (uint8_t)(arity < 255 ? arity : 255);
+    return berth_make_filled(made, 3, calls, arity < 4 ? arity : 4);
 }
 
 /* A row of the draft: a slot for each column. */
 static inline struct berth_command_bytes berth_make_row(const uint8_t *slots, size_t arity) {
-    return berth_make_filled(berth_make_blank(BERTH_ROW, 5, 255), 1, slots, arity);
+    return berth_make_filled(berth_make_blank(BERTH_ROW, 5, BERTH_NONE), 1, slots, arity);
 }
 
 static inline struct berth_command_bytes berth_make_put(void) {

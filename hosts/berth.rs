@@ -2,16 +2,26 @@
 //! summary table, and only commands change them; what a board is, and what the bytes of a command are, is said in berth.h.
 //!
 //! The functions of the module `lent` work on memory that the caller lends, of any length and with any contents: the library is proved to return and to stay
-//! inside it, so they are safe with a library of this file's version. `Board` hands its own memory to them.
+//! inside it, so they are safe with a library of this file's version. They look at the library's version before their first call, and panic where it is another.
+//! `Board` hands its own memory to them.
 #![allow(dead_code)]
 
 use std::fmt;
 use std::mem::size_of;
+use std::sync::OnceLock;
 
 pub const ROWS: usize = 16384;
 pub const KILLERS: usize = 4096;
 pub const SLOTS: usize = 1024;
 pub const MARKS: usize = 43008;
+
+/// The bytes of slots that have no cause: open, not on the board, and of a cancelled call.
+pub const SLOT_OPEN: u8 = 255;
+pub const SLOT_ABSENT: u8 = 254;
+pub const SLOT_CANCELLED: u8 = 253;
+
+/// A row's killer where it lives, the row where there is no support, and a field past the arity.
+pub const NONE: u8 = 255;
 
 /// The summary table's length, in records.
 pub const RECORDS: usize = 32;
@@ -123,10 +133,11 @@ macro_rules! refusals {
                 }
             }
 
-            /// The condition that held.
+            /// The condition that held; of the number 0, that there was none.
             pub const fn text(self) -> &'static str {
                 match self {
                     $(Refusal::$name => $text,)+
+                    Refusal::Other(0) => "accepted",
                     Refusal::Other(_) => "no refusal has this number",
                 }
             }
@@ -307,10 +318,18 @@ pub mod lent {
         library_version() == VERSION && size == size_of::<MarkedValue>()
     }
 
-    /// The value and the names before the first command. Panics where the library is not this file's.
+    // Panics where the library is not this file's. It is looked at once, since it cannot change.
+    fn look() {
+        static FITS: OnceLock<()> = OnceLock::new();
+        FITS.get_or_init(|| {
+            let found = library_version();
+            assert!(library_fits(), "libberth.a is not the library of this berth.rs (versions {found} and {VERSION})");
+        });
+    }
+
+    /// The value and the names before the first command.
     pub fn fresh() -> MarkedValue {
-        let found = library_version();
-        assert!(library_fits(), "libberth.a is not the library of this berth.rs (versions {found} and {VERSION})");
+        look();
         // SAFETY: it takes nothing, and the library's `MarkedValue` is laid out like this file's.
         unsafe { berth_fresh() }
     }
@@ -326,6 +345,7 @@ pub mod lent {
         marks: &mut [u8],
         table: &mut [Summary],
     ) -> Answer<Report> {
+        look();
         // SAFETY: each pointer is a slice's, with that slice's length, so it reaches as far, or that of the value or of both names; the seven that are written
         // are unique borrows, which overlap nothing. Whatever they hold, the function returns and writes only inside them.
         let reply = unsafe {
@@ -361,6 +381,7 @@ pub mod lent {
         marks: &mut [u8],
         table: &mut [Summary],
     ) -> Answer<Replay> {
+        look();
         // SAFETY: as in `command`.
         let reply = unsafe {
             berth_replay(
@@ -410,7 +431,8 @@ pub mod lent {
 
     // The value and the three slices, as the questions take them, before the question's own numbers.
     macro_rules! ask {
-        ($question:ident, $memory:expr, $($number:expr),+) => {
+        ($question:ident, $memory:expr, $($number:expr),+) => {{
+            look();
             // SAFETY: each pointer is a slice's, with that slice's length, so it reaches as far. Whatever the slices, the value and the numbers hold, a question
             // returns, reads only inside them and writes nothing.
             unsafe {
@@ -425,7 +447,7 @@ pub mod lent {
                     $($number),+
                 )
             }
-        };
+        }};
     }
 
     impl<'a> Memory<'a> {
@@ -438,8 +460,8 @@ pub mod lent {
         pub fn slot_state(self, call: u8, slot: u8) -> Answer<Slot> {
             let reply = ask!(berth_slot_state, self, call, slot);
             let given = match reply.byte {
-                255 => Slot::Open,
-                253 => Slot::Cancelled,
+                SLOT_OPEN => Slot::Open,
+                SLOT_CANCELLED => Slot::Cancelled,
                 cause => Slot::Struck { cause },
             };
             answer(reply.number, given)
@@ -448,7 +470,7 @@ pub mod lent {
         pub fn row_state(self, rule: u8, row: u8) -> Answer<Row> {
             let reply = ask!(berth_row_state, self, rule, row);
             let given = match reply.byte {
-                255 => Row::Alive,
+                NONE => Row::Alive,
                 killer => Row::Dead { killer },
             };
             answer(reply.number, given)
@@ -464,7 +486,7 @@ pub mod lent {
         pub fn support(self, rule: u8, column: u8, slot: u8) -> Answer<Option<u8>> {
             let reply = ask!(berth_support, self, rule, column, slot);
             let given = match reply.byte {
-                255 => None,
+                NONE => None,
                 row => Some(row),
             };
             answer(reply.number, given)
@@ -489,7 +511,7 @@ impl Default for Board {
     }
 }
 
-// A command's bytes, filled up to its length. More fields than it has room for make it too long, and the board refuses it.
+// A command's bytes, filled up to its length. More fields than it has room for make it too long, and the board refuses it (4).
 fn filled(start: &[u8], fields: &[u8], length: usize, spare: u8) -> Vec<u8> {
     let mut bytes = [start, fields].concat();
     bytes.resize(bytes.len().max(length), spare);
@@ -529,15 +551,15 @@ impl Board {
         self.command(&filled(&[1], counts, 33, 0))
     }
 
-    /// Kind 2: starts a draft, in place of any other.
+    /// Kind 2: starts a draft, in place of any other. More than four calls are refused for the arity.
     pub fn head(&mut self, number: u8, calls: &[u8]) -> Answer<Report> {
         let arity = calls.len().min(255) as u8;
-        self.command(&filled(&[2, number, arity], calls, 7, 255))
+        self.command(&filled(&[2, number, arity], &calls[..calls.len().min(4)], 7, NONE))
     }
 
     /// Kind 3: adds a row to the draft.
     pub fn row(&mut self, slots: &[u8]) -> Answer<Report> {
-        self.command(&filled(&[3], slots, 5, 255))
+        self.command(&filled(&[3], slots, 5, NONE))
     }
 
     /// Kind 4: the draft comes into force, then there is none.

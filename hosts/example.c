@@ -19,7 +19,7 @@ static void print_calls(const struct berth_board *board) {
         if (reply.number != 0)
             return;
         printf("c %d", call);
-        if (berth_board_slot_state(board, call, 0).cause == 253)
+        if (berth_board_slot_state(board, call, 0).cause == BERTH_SLOT_CANCELLED)
             printf(" -"); /* the call is cancelled */
         for (int slot = 0; slot < 32; slot++)
             if (reply.mask >> slot & 1)

@@ -40,11 +40,11 @@ static void clear(struct berth_board *board) {
     same("clear", berth_board_clear(board), 1);
     same("fresh value and names", memcmp(&board->value, &fresh, sizeof fresh), 0);
     for (int i = 0; i < BERTH_ROWS; i++)
-        same("fresh row byte", board->rows[i], 255);
+        same("fresh row byte", board->rows[i], BERTH_NONE);
     for (int i = 0; i < BERTH_KILLERS; i++)
-        same("fresh killer byte", board->killers[i], 255);
+        same("fresh killer byte", board->killers[i], BERTH_NONE);
     for (int i = 0; i < BERTH_SLOTS; i++)
-        same("fresh slot byte", board->slots[i], 254);
+        same("fresh slot byte", board->slots[i], BERTH_SLOT_ABSENT);
     for (int i = 0; i < BERTH_MARKS; i++)
         same("byte of the marks beside a fresh board", board->marks[i], 7);
     for (int name = 0; name < 2; name++)
@@ -99,7 +99,7 @@ static void same_bytes(const char *what, struct berth_command_bytes made, const 
 
 static void build(void) {
     static const uint8_t fields[34] = {3, 1, 2, 0}, board[33] = {1, 3, 1, 2}, whole[33] = {1, 3, 1, 2, 0};
-    static const uint8_t head[7] = {2, 9, 2, 3, 1, 255, 255}, row[5] = {3, 3, 1, 2, 255}, put[1] = {4}, lift[2] = {5, 63};
+    static const uint8_t head[7] = {2, 9, 2, 3, 1, 255, 255}, head_5[7] = {2, 9, 5, 3, 1, 2, 0}, row[5] = {3, 3, 1, 2, 255}, put[1] = {4}, lift[2] = {5, 63};
     static const uint8_t gap[6] = {6, 2, 9, 31, 0, 5}, mark[2] = {7, 1}, back[2] = {8, 255}, cancel[2] = {9, 31};
     same_bytes("board's bytes", berth_make_board(fields, 3), board, 33);
     same_bytes("bytes of a board of 32 calls", berth_make_board(fields, 32), whole, 33);
@@ -112,7 +112,8 @@ static void build(void) {
     same_bytes("back's bytes", berth_make_back(255), back, 2);
     same_bytes("cancel's bytes", berth_make_cancel(31), cancel, 2);
     same("a board of 33 calls", (long)berth_make_board(fields, 33).length, 34);
-    same("a head of five calls", (long)berth_make_head(9, fields, 5).length, 8);
+    same_bytes("a head of five calls", berth_make_head(9, fields, 5), head_5, 7);
+    same("a head of 258 calls", berth_make_head(9, fields, 258).bytes[2], 255);
     same("a row of five slots", (long)berth_make_row(fields, 5).length, 6);
     same("no slots", berth_make_row(NULL, 0).bytes[1], 255);
 }
@@ -121,12 +122,12 @@ static void ask(const struct berth_board *board) {
     same("mask", berth_board_open_slots(board, 1).mask, 1);
     same("ones", berth_board_open_slots(board, 1).ones, 1);
     same("no call", berth_board_open_slots(board, 2).number, BERTH_NO_SUCH_CALL);
-    same("open slot", berth_board_slot_state(board, 0, 0).cause, 255);
+    same("open slot", berth_board_slot_state(board, 0, 0).cause, BERTH_SLOT_OPEN);
     same("cause on call 0", berth_board_slot_state(board, 0, 1).cause, 5);
     same("cause on call 1", berth_board_slot_state(board, 1, 1).cause, 0);
     same("no slot", berth_board_slot_state(board, 1, 2).number, BERTH_NO_SUCH_SLOT);
-    same("no slot's cause", berth_board_slot_state(board, 1, 2).cause, 254);
-    same("living row", berth_board_row_state(board, 0, 0).killer, 255);
+    same("no slot's cause", berth_board_slot_state(board, 1, 2).cause, BERTH_SLOT_ABSENT);
+    same("living row", berth_board_row_state(board, 0, 0).killer, BERTH_NONE);
     same("killer", berth_board_row_state(board, 0, 1).killer, 0);
     same("no row", berth_board_row_state(board, 0, 2).number, BERTH_NO_SUCH_ROW);
     same("row's place", berth_board_row_bytes(board, 5, 0) == board->rows + 1280, 1);
@@ -134,7 +135,7 @@ static void ask(const struct berth_board *board) {
     same("row's byte", board->rows[5], 1);
     same("no row's bytes", berth_board_row_bytes(board, 1, 0) == NULL, 1);
     same("support", berth_board_support(board, 0, 1, 0).row, 0);
-    same("no support", berth_board_support(board, 0, 1, 1).row, 255);
+    same("no support", berth_board_support(board, 0, 1, 1).row, BERTH_NONE);
     same("no column", berth_board_support(board, 5, 1, 0).number, BERTH_NO_SUCH_COLUMN);
     same("rule not in force", berth_board_support(board, 9, 0, 0).number, BERTH_NOT_IN_FORCE);
 }
@@ -168,7 +169,8 @@ static void refuse(struct berth_board *board) {
     same("no byte", berth_board_command(board, lift, 0).number, BERTH_UNKNOWN_KIND);
     same("too many counts", berth_board_start(board, counts, 33).number, BERTH_BODY_LENGTH);
     same("no counts", berth_board_start(board, counts, 0).number, BERTH_BAD_COUNTS);
-    same("too many calls", berth_board_head(board, 9, counts, 257).number, BERTH_BODY_LENGTH);
+    same("five calls", berth_board_head(board, 9, counts, 5).number, BERTH_BAD_ARITY);
+    same("too many calls", berth_board_head(board, 9, counts, 257).number, BERTH_BAD_ARITY);
     same("lift of what is not there", berth_board_lift(board, 9).number, BERTH_NOT_IN_FORCE);
     same("put without a draft", berth_board_put(board).number, BERTH_NO_DRAFT);
 }
@@ -191,7 +193,7 @@ static void put_gap(struct berth_board *board, uint8_t form, uint8_t gap, const 
     same("put of a gap rule", reply.number, 0);
     for (uint8_t w = 0; w < count; w++) {
         same_row("row of a gap rule", board, 7, w, pairs[2 * w], pairs[2 * w + 1]);
-        same("living row of a gap rule", berth_board_row_state(board, 7, w).killer, 255);
+        same("living row of a gap rule", berth_board_row_state(board, 7, w).killer, BERTH_NONE);
     }
     same("row past a gap rule's last", berth_board_row_state(board, 7, count).number, BERTH_NO_SUCH_ROW);
     same("first call under a gap rule", berth_board_open_slots(board, 0).mask, first);
@@ -537,8 +539,8 @@ static void same_cancelled(const struct berth_board *board, uint8_t call, uint8_
     for (uint8_t slot = 0; slot < 32; slot++) {
         struct berth_state_reply reply = berth_board_slot_state(board, call, slot);
         same("state of a cancelled slot", reply.number, slot < count ? 0 : BERTH_NO_SUCH_SLOT);
-        same("its cause", reply.cause, slot < count ? 253 : 254);
-        same("its byte", board->slots[32 * call + slot], slot < count ? 253 : 254);
+        same("its cause", reply.cause, slot < count ? BERTH_SLOT_CANCELLED : BERTH_SLOT_ABSENT);
+        same("its byte", board->slots[32 * call + slot], slot < count ? BERTH_SLOT_CANCELLED : BERTH_SLOT_ABSENT);
     }
     same("mask of a cancelled call", berth_board_open_slots(board, call).mask, 0);
     same("its ones", berth_board_open_slots(board, call).ones, 0);
@@ -562,8 +564,8 @@ static void cancel_call(struct berth_board *board) {
     same("other call", berth_board_open_slots(board, 1).mask, 3);
     same_record("its record", berth_board_summary(board, 1), 2, 0, 1);
     for (uint8_t slot = 0; slot < 2; slot++) {
-        same("row whose cancelled column counts no more", berth_board_row_state(board, 0, slot).killer, 255);
-        same("support in the cancelled column", berth_board_support(board, 0, 0, slot).row, 255);
+        same("row whose cancelled column counts no more", berth_board_row_state(board, 0, slot).killer, BERTH_NONE);
+        same("support in the cancelled column", berth_board_support(board, 0, 0, slot).row, BERTH_NONE);
         same("it is asked", berth_board_support(board, 0, 0, slot).number, 0);
         same("support in the other column", berth_board_support(board, 0, 1, slot).row, slot);
     }
@@ -705,7 +707,7 @@ static void obey_altered(struct berth_board *board, struct berth_command_bytes m
     if (kind == BERTH_CANCEL && number == 0) {
         same("value after a cancel on altered memory", memcmp(&board->value, &wanted.value, sizeof board->value), 0);
         same("rows after it", memcmp(board->rows, wanted.rows, sizeof board->rows), 0);
-        same("state after it", berth_board_slot_state(board, made.bytes[1], 0).cause, 253);
+        same("state after it", berth_board_slot_state(board, made.bytes[1], 0).cause, BERTH_SLOT_CANCELLED);
     }
     if (kind == BERTH_BOARD) {
         same("a new board on altered memory", number, 0);
@@ -809,7 +811,7 @@ static void strew_cancelled(void) {
         for (size_t j = i; j < sizeof places / sizeof *places; j++) {
             same("clear", berth_board_clear(board), 1);
             make_board(board);
-            board->slots[places[i]] = board->slots[places[j]] = 253;
+            board->slots[places[i]] = board->slots[places[j]] = BERTH_SLOT_CANCELLED;
             for (size_t k = 0; k < COMMANDS; k++) {
                 obey_altered(board, made[k]);
                 ask_altered(board);

@@ -1,5 +1,6 @@
 //! Tests of the wrapper: its refusals, its builders of commands and its check of the library. What the library answers in general is tested in tests/ at the
-//! top. With the word `texts` it prints the refusals and their texts; berth.h has to say the same.
+//! top. With the word `texts` it prints the refusals and their texts; berth.h has to say the same. With the words `command` and `question` it does nothing but
+//! call the library on lent memory: hosts/run has it do so with a library of another version.
 mod berth;
 
 use berth::{
@@ -83,7 +84,7 @@ fn support_lowest() {
 fn refuse(board: &mut Board) {
     assert_eq!(board.start(&[1; 33]), Err(Refusal::BodyLength));
     assert_eq!(board.start(&[]), Err(Refusal::BadCounts));
-    assert_eq!(board.head(1, &[0; 257]), Err(Refusal::BodyLength));
+    assert_eq!([5, 257].map(|calls| board.head(1, &vec![0; calls])), [Err(Refusal::BadArity); 2]);
     assert_eq!(board.row(&[0; 5]), Err(Refusal::BodyLength));
     assert_eq!(board.put(), Err(Refusal::NoDraft));
     assert_eq!(board.lift(9), Err(Refusal::NotInForce));
@@ -705,10 +706,23 @@ fn name() {
     assert_eq!(Refusal::Other(99).to_string(), "refused 99: no refusal has this number");
 }
 
+/// The first call of a host that lends its own memory.
+fn lend(word: &str) {
+    let MarkedValue { mut value, mut names } = value_of(0);
+    let refused = match word {
+        "command" => lent::command(&mut value, &mut names, &[4], &mut [], &mut [], &mut [], &mut [], &mut []).err(),
+        _ => lent::Memory { value: &value, rows: &[], killers: &[], slots: &[] }.open_slots(0).err(),
+    };
+    assert_eq!(refused, Some(Refusal::BufferLength));
+}
+
 fn main() {
-    if std::env::args().nth(1).as_deref() == Some("texts") {
-        (0..=255).for_each(|number| println!("{} {}", number, Refusal::from_number(number).text()));
-        return;
+    match std::env::args().nth(1).as_deref() {
+        None => (),
+        Some("texts") => {
+            return (0..=255).for_each(|number| println!("{} {}", number, Refusal::from_number(number).text()))
+        }
+        Some(word) => return lend(word),
     }
     assert_eq!((lent::library_version(), lent::library_fits()), (berth::VERSION, true));
     let mut board = board();

@@ -3,22 +3,20 @@
 // summary table is a slice of C structs. hosts/berth.h says the same for C, and two numbers tell a host whether its header is this library's.
 // Proved: each reply hands on an answer that keeps its promise of the model's specs, on any value and any buffers. Assumed: nothing here; of a host, that a
 // lent pointer reaches as far as its length says, and that nothing lent to one call overlaps.
-pub mod reply; // the answers as C structs
-
-use crate::reply::CommandReply;
-use crate::reply::PlaceReply;
-use crate::reply::ReplayReply;
-use crate::reply::RowReply;
-use crate::reply::SlotsReply;
-use crate::reply::StateReply;
-use crate::reply::SupportReply;
+use berth_reply::CommandReply;
+use berth_reply::PlaceReply;
+use berth_reply::ReplayReply;
+use berth_reply::RowReply;
+use berth_reply::SlotsReply;
+use berth_reply::StateReply;
+use berth_reply::SupportReply;
 use layout::names::MarkedValue;
 use layout::names::NAMES;
 use layout::summary::Summary;
 use layout::value::Value;
 ghost use mathlib.Core.Path.{_≡_};
 ghost use Rattle.model.specs.Questions.{SlotsPromise, StatePromise, RowPromise, SupportPromise};
-ghost use Rattle.berth.specs.Replies.{Replied, CommandReplied, ReplayReplied, PlaceReplied, slotsReply, stateReply, rowReply, supportReply};
+ghost use Rattle.berth_reply.specs.Replies.{Replied, CommandReplied, ReplayReplied, PlaceReplied, slotsReply, stateReply, rowReply, supportReply};
 ghost use Rattle.layout.specs.Names.{freshMarked};
 ghost use Rattle.layout.specs.Memory.{memory, markedMemory, wholeOf};
 ghost use Rattle.berth.specs.Version.{interfaceVersion, valueSize};
@@ -64,12 +62,12 @@ pub extern "C" fn berth_command(
     table: &mut [Summary],
 ) -> CommandReply
     ensures { λ r. ⌜ CommandReplied
-        (now (bytes .entry)) (wholeOf (markedMemory (now (value .entry)) (names .entry) (rows .entry) (killers .entry) (slots .entry) (marks .entry)) (now (table .entry))) r
-        (wholeOf (markedMemory (now (value .exit)) (names .exit) (rows .exit) (killers .exit) (slots .exit) (marks .exit)) (now (table .exit))) ⌝ }
+        (now (bytes .entry)) (wholeOf (markedMemory (now (value .entry)) (names .entry) (rows .entry) (killers .entry) (slots .entry) (marks .entry)) (now (table .entry)))
+        r (wholeOf (markedMemory (now (value .exit)) (names .exit) (rows .exit) (killers .exit) (slots .exit) (marks .exit)) (now (table .exit))) ⌝ }
 {
     let outcome = board::command(*value, names, bytes, rows, killers, slots, marks, table);
     *value = outcome.value;
-    reply::of_outcome(outcome)
+    berth_reply::of_outcome(outcome)
 }
 
 // The memory becomes a fresh board's, whatever it held, and the commands of a file are run on it; a file without bytes leaves the fresh board. All of it is written in
@@ -91,7 +89,7 @@ pub extern "C" fn berth_replay(
 {
     let replayed = board::replay(*value, names, file, rows, killers, slots, marks, table);
     *value = replayed.value;
-    reply::of_replayed(replayed)
+    berth_reply::of_replayed(replayed)
 }
 
 // The mask of a call's open slots, with the number of its ones.
@@ -105,10 +103,10 @@ pub extern "C" fn berth_open_slots(
 ) -> SlotsReply
     ensures { λ r. ⌜ Replied (SlotsPromise (memory value (rows .entry) (killers .entry) (slots .entry)) call) slotsReply r ⌝ }
 {
-    reply::of_open_slots(questions::open_slots(value, rows, killers, slots, call))
+    berth_reply::of_open_slots(questions::open_slots(value, rows, killers, slots, call))
 }
 
-// Open, or struck with its cause.
+// Open, struck with its cause, or of a cancelled call.
 #[no_mangle]
 pub extern "C" fn berth_slot_state(
     value: Value,
@@ -120,7 +118,7 @@ pub extern "C" fn berth_slot_state(
 ) -> StateReply
     ensures { λ r. ⌜ Replied (StatePromise (memory value (rows .entry) (killers .entry) (slots .entry)) call slot) stateReply r ⌝ }
 {
-    reply::of_slot_state(questions::slot_state(value, rows, killers, slots, call, slot))
+    berth_reply::of_slot_state(questions::slot_state(value, rows, killers, slots, call, slot))
 }
 
 // Alive, or its killer's column.
@@ -135,7 +133,7 @@ pub extern "C" fn berth_row_state(
 ) -> RowReply
     ensures { λ r. ⌜ Replied (RowPromise (memory value (rows .entry) (killers .entry) (slots .entry)) rule row) rowReply r ⌝ }
 {
-    reply::of_row_state(questions::row_state(value, rows, killers, slots, rule, row))
+    berth_reply::of_row_state(questions::row_state(value, rows, killers, slots, rule, row))
 }
 
 // Where the row's four bytes stand in the lent row buffer: no byte of it where `berth_row_state` refuses.
@@ -151,7 +149,7 @@ pub extern "C" fn berth_row_place(
     ensures { λ r. ⌜ PlaceReplied (memory value (rows .entry) (killers .entry) (slots .entry)) rule row r ⌝ }
 {
     let part = questions::row_bytes(value, rows, killers, slots, rule, row);
-    reply::of_row_bytes(part.len(), rule, row)
+    berth_reply::of_row_bytes(part.len(), rule, row)
 }
 
 // The lowest living row that holds the slot in the rule's column, or none.
@@ -169,5 +167,5 @@ pub extern "C" fn berth_support(
         (SupportPromise (memory value (rows .entry) (killers .entry) (slots .entry)) rule column slot)
         supportReply r ⌝ }
 {
-    reply::of_support(questions::support(value, rows, killers, slots, rule, column, slot))
+    berth_reply::of_support(questions::support(value, rows, killers, slots, rule, column, slot))
 }

@@ -2,12 +2,9 @@
 // the five questions, which the crate questions has. The types that they take and answer with are handed on too.
 // Proved: what the command entry answers and leaves is what specs/Promise.antt of the crate model says, and what a file leaves stands after a list of such commands,
 // of which specs/Laws/Demands.antt has demand 3. Assumed: nothing.
-mod run; // a command and the records that it leaves
-mod file; // a file of commands
-
-pub use crate::file::Replayed;
-use crate::file::replay_core;
-use crate::run::command_core;
+pub use command_file::Replayed;
+use command_file::replay_core;
+use command_run::command_core;
 pub use layout::names::MarkedValue;
 use layout::names::NAMES;
 pub use layout::summary::Summary;
@@ -27,7 +24,7 @@ pub use questions::support;
 use summary_store::store_records;
 ghost use Rattle.model.specs.Promise.{Promise};
 ghost use Rattle.layout.specs.Memory.{markedMemory, wholeOf};
-ghost use Rattle.board.specs.Replay.{ReplayPromise};
+ghost use Rattle.command_file.specs.Replay.{ReplayPromise};
 
 // Refused, and the value, the names, all buffers and the table are as they were; or accepted, and they are those of the board after the command, the table whatever it
 // held. A buffer that does not have its length (SCOPE 2), the marks among them, is refused 1 and a table that does not have 32 records 22; no byte at all is refused 3,

@@ -20,7 +20,7 @@ fn is_kind(k: u8) -> bool
     1 <= k && k <= 9
 }
 
-fn body_length(k: u8) -> usize
+pub fn body_length(k: u8) -> usize
     ensures { λ r. ⌜ r ≡ bodySize k ⌝ }
 {
     match k {

@@ -7,30 +7,18 @@ use mathlib.Core.Bool.{Bool}
 use Prim.Native.Nat.{ℕ, _*_, _-_, _/_, _<_}
 use lib.ListN.{length, getD}
 use Rattle.tables.specs.Count.{count}
-use Rattle.tables.specs.Masks.{flagsOf, allFlags}
-use Rattle.tables.specs.Sweep.{Swept}
+use Rattle.tables.specs.Masks.{flagsOf}
+use Rattle.tables.specs.Sweep.{Becomes, Swept}
 use Rattle.filter_propagate.specs.Rules.{RuleBytes, reached}
 use Rattle.filter_propagate.specs.Queue.{IsFlagged}
 use Rattle.filter_propagate.specs.Steps.{Propagated}
-use Rattle.filter_relax.specs.Touched.{CallsVisited}
 use Rattle.filter_relax.specs.Spread.{isVisited}
 use Rattle.filter_relax.specs.Relaxed.{Relaxed}
 use Rattle.layout.specs.Places.{cancelledByte, slotPlace}
 
--- an entry becomes b
-abbrev pub Becomes : ℕ → ℕ → ℕ → ℕ → Type 0
-Becomes b i old new = new ≡ b
-
--- the slot bytes of call c that are a cause
+-- the slot bytes of call c that are a cause, which are the seed
 abbrev pub OwnStruck : List ℕ → ℕ → ℕ → Type 0
 OwnStruck slots c j = (s : ℕ) × (s < 32) × (j ≡ slotPlace c s) × (getD slots j 0 < 64)
-
--- the visited are the struck slots of call c, and `calls` is the mask of the calls that have one
-pub record CancelSeeding (c : ℕ) (slots visited : List ℕ) (calls : ℕ) : Type 0 where
-  pub size : length visited ≡ 32
-  pub has : (j : ℕ) → OwnStruck slots c j → IsFlagged (allFlags 32 visited) j
-  pub only : (j : ℕ) → IsFlagged (allFlags 32 visited) j → OwnStruck slots c j
-  pub calls-visited : CallsVisited (flagsOf 32 calls) (allFlags 32 visited)
 
 -- the first n slot bytes of call c are those of a cancelled call, and all others are as they were
 abbrev pub Withdrawn : ℕ → ℕ → List ℕ → List ℕ → Type 0
@@ -41,6 +29,18 @@ pub record Beside (c : ℕ) (visited others : List Bool) : Type 0 where
   pub size : length others ≡ length visited
   pub has : (j : ℕ) → IsFlagged visited j → (j / 32 ≡ c → ⊥) → IsFlagged others j
   pub only : (j : ℕ) → IsFlagged others j → IsFlagged visited j × (j / 32 ≡ c → ⊥)
+
+-- the call is withdrawn, and the pending rules are revised, until none is: `again` slots are struck
+pub record StruckWithout (c n again : ℕ) (pending : List Bool) (R : RuleBytes) (killers killers′ slots slots′ : List ℕ) : Type 0 where
+  pub left : List ℕ
+  pub withdrawn : Withdrawn c n slots left
+  pub flags : List Bool
+  pub propagated : Propagated R again (reached killers left pending) (reached killers′ slots′ flags)
+
+-- of all that are visited, by the mask of each call, those of call c do not count; and of the others `again` are struck again
+pub record OthersCounted (masks : List ℕ) (c all again reopened touched : ℕ) : Type 0 where
+  pub less-own : touched ≡ all - count isVisited (flagsOf 32 (getD masks c 0))
+  pub less-again : reopened ≡ touched - again
 
 -- no slot of the call is struck: the killers stay
 pub record CancelQuiet (c n : ℕ) (killers killers′ slots slots′ : List ℕ) (reopened touched : ℕ) : Type 0 where
@@ -57,7 +57,7 @@ pub record CancelReworked (c n : ℕ) (R : RuleBytes) (killers killers′ slots 
   pub visited : List Bool
   pub pending : List Bool
   pub all : ℕ
-  pub relaxed : Relaxed R (OwnStruck slots c) 255 all killers revived slots opened visited pending
+  pub relaxed : Relaxed R (OwnStruck slots c) all killers revived slots opened visited pending
   pub left : List ℕ
   pub withdrawn : Withdrawn c n opened left
   pub again : ℕ

@@ -7,14 +7,17 @@ use layout::places::CANCELLED;
 ghost use mathlib.Core.Path.{_≡_};
 ghost use Prim.Native.Nat.{_*_, _≤_, _<_};
 ghost use lib.ListN.{length};
-ghost use Rattle.tables.specs.Sweep.{Swept};
+ghost use Rattle.tables.specs.Masks.{flagsOf};
+ghost use Rattle.tables.specs.Sweep.{Becomes, Swept};
+ghost use Rattle.masks.specs.Rules.{RulesOn};
 ghost use Rattle.filter_propagate.specs.Rules.{rulesIn};
-ghost use Rattle.filter_cancel.specs.Done.{Becomes, CancelSeeding, CancelReworked, CancelDone};
+ghost use Rattle.filter_relax.specs.Seed.{Seeding};
+ghost use Rattle.filter_cancel.specs.Done.{OwnStruck, StruckWithout, OthersCounted, CancelReworked, CancelDone};
 ghost use Rattle.layout.specs.Bounds.{Sizes};
 ghost use Rattle.layout.specs.Places.{cancelledByte};
 ghost use Rattle.layout.specs.Sizes.{slotsLength};
 
-// How many slots of other calls came back, and how many of them were touched.
+// How many slots of other calls came back, and how many of other calls were touched.
 pub struct Cancellation {
     pub reopened: usize,
     pub touched: usize,
@@ -34,7 +37,46 @@ pub fn withdraw(slots: &mut [u8], c: usize, n: usize)
     }
 }
 
-// The slots of call c are withdrawn, and the touched slots of the other calls are counted: those that are visited on it are not.
+// Call c is withdrawn, and the pending rules are revised. The number of slots struck.
+fn strike_without(
+    rows: &[u8],
+    killers: &mut [u8],
+    slots: &mut [u8],
+    arity: &[u8; 64],
+    scope: &[u8; 256],
+    lengths: &[u8; 64],
+    on: &[u64; 32],
+    pending: u64,
+    c: usize,
+    n: usize,
+) -> usize
+    requires { ⌜ Sizes (now rows) (now killers) (now slots) ⌝ }
+    requires { ⌜ RulesOn (now arity) (now scope) (now on) ⌝ }
+    requires { ⌜ c < 32 ⌝ }
+    requires { ⌜ n ≤ 32 ⌝ }
+    ensures { λ r. ⌜ StruckWithout
+        c n r (flagsOf 64 pending) (rulesIn (rows .entry) (arity .entry) (scope .entry) (lengths .entry))
+        (now (killers .entry)) (now (killers .exit)) (now (slots .entry)) (now (slots .exit)) ⌝ }
+{
+    withdraw(slots, c, n);
+    filter_propagate::propagate(rows, killers, slots, arity, scope, lengths, on, pending)
+}
+
+// Of all touched slots, those of the other calls than c: how many came back where so many are struck again, and how many they are.
+fn count_others(visited: &[u32; 32], c: usize, all: usize, again: usize) -> Cancellation
+    requires { ⌜ c < 32 ⌝ }
+    ensures { λ r. ⌜ OthersCounted (now (visited .entry)) c all again (r .reopened) (r .touched) ⌝ }
+{
+    let own = filter_relax::reopen::slots_in(visited[c]);
+    let touched = difference(all, own);
+    Cancellation {
+        reopened: difference(touched, again),
+        touched,
+    }
+}
+
+// The cancellation of a call with struck slots: those that are visited, on the calls of the mask. They reopen with all that leaned on them, the call is withdrawn, and
+// the rules on the reopened calls are revised.
 fn cancel_struck(
     rows: &[u8],
     killers: &mut [u8],
@@ -50,7 +92,7 @@ fn cancel_struck(
     requires { ⌜ Sizes (now rows) (now killers) (now slots) ⌝ }
     requires { ⌜ c < 32 ⌝ }
     requires { ⌜ n ≤ 32 ⌝ }
-    requires { ⌜ CancelSeeding c (now slots) (now visited) calls ⌝ }
+    requires { ⌜ Seeding (OwnStruck (now slots) c) (now visited) calls ⌝ }
     ensures { λ r. ⌜ CancelReworked
         c n (rulesIn (rows .entry) (arity .entry) (scope .entry) (lengths .entry)) (now (killers .entry))
         (now (killers .exit)) (now (slots .entry)) (now (slots .exit)) (r .reopened) (r .touched) ⌝ }
@@ -66,25 +108,10 @@ fn cancel_struck(
         &on,
         visited,
         calls,
-        255,
     );
-    withdraw(slots, c, n);
-    let again = filter_propagate::propagate(
-        rows,
-        killers,
-        slots,
-        arity,
-        scope,
-        lengths,
-        &on,
-        relaxed.pending,
-    );
-    let own = filter_relax::reopen::slots_in(visited[c]);
-    let touched = difference(relaxed.touched, own);
-    Cancellation {
-        reopened: difference(touched, again),
-        touched,
-    }
+    let left = relaxed.pending;
+    let again = strike_without(rows, killers, slots, arity, scope, lengths, &on, left, c, n);
+    count_others(visited, c, relaxed.touched, again)
 }
 
 // Call c, which has n slots, is cancelled. One without a struck slot is only withdrawn.

@@ -1,5 +1,6 @@
 // A rule comes into force under a free number: its bytes are written and propagation strikes the slots that lost their support.
-// All of it is safe and ends on any contents of the buffers; what it means on a board is in specs/.
+// Proved: it is safe and ends on any contents of the buffers, and on a stored board it leaves the board stored with the rule (specs/Laws/Stored.antt).
+// Assumed: nothing.
 pub mod write; // the bytes of one rule
 
 use layout::value::RuleData;

@@ -1,9 +1,9 @@
 -- What a step keeps, and so propagate: the lengths; that slots only go from open to struck; that killers only go from none to the column of a struck slot.
 use mathlib.Core.Path.{_≡_}
 use mathlib.Core.List.{List}
-use Prim.Native.Nat.{ℕ, _+_, _*_, _<_}
+use Prim.Native.Nat.{ℕ, _<_}
 use Rattle.filter_propagate.specs.Rules.{RuleBytes}
-use Rattle.filter_propagate.specs.Rows.{HoldsStruck}
+use Rattle.filter_support.specs.Rows.{HoldsStruck}
 use Rattle.layout.specs.Places.{columnsOf, rowsOf, killerPlace}
 
 -- a living row of rule p was killed: killer byte j is its, had no killer, and got a column that holds a struck slot

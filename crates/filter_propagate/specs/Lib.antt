@@ -1,9 +1,4 @@
 pub mod Rules
-pub mod Bounds
-pub mod Rows
-pub mod Walk
-pub mod Strikes
-pub mod Known
 pub mod Queue
 pub mod Step
 pub mod Steps

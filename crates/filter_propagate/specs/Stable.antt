@@ -2,10 +2,10 @@
 use mathlib.Core.Path.{_≡_}
 use mathlib.Core.List.{List}
 use mathlib.Core.Bool.{false}
-use Prim.Native.Nat.{ℕ, _+_, _*_, _<_}
+use Prim.Native.Nat.{ℕ, _<_}
 use lib.ListN.{getD}
 use Rattle.filter_propagate.specs.Rules.{RuleBytes, Progress}
-use Rattle.filter_propagate.specs.Rows.{NoneStruck, Support}
+use Rattle.filter_support.specs.Rows.{NoneStruck, Support}
 use Rattle.layout.specs.Places.{columnsOf, rowsOf, callOf, killerOf, slotPlace}
 
 pub record StableBytes (R : RuleBytes) (killers slots : List ℕ) (q : ℕ) : Type 0 where

@@ -8,8 +8,8 @@ use Rattle.tables.specs.Assign.{Flagged, Below}
 use Rattle.tables.specs.Count.{count}
 use Rattle.tables.specs.Masks.{IsMask}
 use Rattle.filter_propagate.specs.Rules.{RuleBytes, Progress}
-use Rattle.filter_propagate.specs.Rows.{Killed, Unsupported}
-use Rattle.filter_propagate.specs.Strikes.{isOpen, SlotsStruck, ColumnWith, StruckOn}
+use Rattle.filter_support.specs.Rows.{Killed, Unsupported}
+use Rattle.filter_support.specs.Strikes.{isOpen, SlotsStruck, ColumnWith, StruckOn}
 use Rattle.filter_propagate.specs.Queue.{Enqueued, IsFlagged}
 use Rattle.layout.specs.Places.{columnsOf, rowsOf}
 

@@ -3,7 +3,7 @@ use mathlib.Core.Path.{_≡_}
 use Prim.Native.Nat.{ℕ, _+_}
 use Rattle.tables.specs.Count.{count}
 use Rattle.filter_propagate.specs.Rules.{RuleBytes, Progress}
-use Rattle.filter_propagate.specs.Strikes.{isOpen}
+use Rattle.filter_support.specs.Strikes.{isOpen}
 use Rattle.filter_propagate.specs.Queue.{Idle}
 use Rattle.filter_propagate.specs.Step.{Stepped}
 

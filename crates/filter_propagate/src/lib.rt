@@ -1,9 +1,10 @@
 // Propagation over the lent bytes: pending rules are revised one after another, until every rule is stable.
-// All of it is safe and ends on any contents of the buffers; what it means on a board is for the crates above.
-pub mod known; // the masks of the calls that a command has looked at
-pub mod rows; // the walk over a rule's rows: kills and supports
-pub mod strikes; // striking the slots without a support
-
+// Proved: it is safe and ends on any contents of the buffers; each step kills rows and strikes slots as specs/Step.antt says, and at the end no rule is pending. What
+// that means on a board is for the crates above.
+// Assumed: nothing.
+use filter_support::known::know_columns;
+use filter_support::rows::revise_columns;
+use filter_support::strikes::strike_columns;
 ghost use Prim.Native.Nat.{_<_};
 ghost use Rattle.tables.specs.Masks.{Has, flagsOf};
 ghost use Rattle.masks.specs.Rules.{RulesOn};
@@ -11,7 +12,7 @@ ghost use Rattle.filter_propagate.specs.Rules.{rulesIn, reached};
 ghost use Rattle.filter_propagate.specs.Queue.{onlyRule};
 ghost use Rattle.filter_propagate.specs.Step.{Revision, Stepped};
 ghost use Rattle.filter_propagate.specs.Steps.{Propagated};
-ghost use Rattle.filter_propagate.specs.Known.{Known};
+ghost use Rattle.filter_support.specs.Known.{Known};
 ghost use Rattle.layout.specs.Bounds.{Sizes};
 
 // How many slots a revision struck, the calls where one was, and the calls whose masks are known after it.
@@ -51,10 +52,10 @@ pub fn revise(
 {
     let n = layout::places::cap(arity[p], 4);
     let m = layout::places::cap(lengths[p], 64);
-    let all = known::know_columns(slots, opened, struck, known, scope, p, n);
+    let all = know_columns(slots, opened, struck, known, scope, p, n);
     let dead = masks::columns::column_sets(struck, scope, p, n);
-    let found = rows::revise_columns(rows, killers, dead, p, n, m);
-    let done = strikes::strike_columns(slots, opened, struck, found, scope, p as u8, n);
+    let found = revise_columns(rows, killers, dead, p, n, m);
+    let done = strike_columns(slots, opened, struck, found, scope, p as u8, n);
     RevisionDone {
         number: done.number,
         calls: done.calls,

@@ -2,6 +2,7 @@ pub mod Reach
 pub mod Touched
 pub mod Bounds
 pub mod Spread
+pub mod Seed
 pub mod Scan
 pub mod Closure
 pub mod Reopen

@@ -20,15 +20,15 @@ OnVisited R visited q = OnCalls (HasVisited visited) (R .scope) q (columnsOf (R 
 
 -- THE RELAXATION from Seed, of the killers and slots before to those after:
 -- the visited are exactly the touched slots (all of them where no rule kills its own rows by its own strikes);
--- these slots hold b, all others what they held, and t is their number;
+-- these slots are open, all others hold what they held, and t is their number;
 -- the killers on them are 255, all others what they were;
 -- and the pending rules are exactly those with a column on the call of one of them
-pub record Relaxed (R : RuleBytes) (Seed : ℕ → Type 0) (b t : ℕ) (killers revived slots reopened : List ℕ) (visited pending : List Bool) : Type 0 where
+pub record Relaxed (R : RuleBytes) (Seed : ℕ → Type 0) (t : ℕ) (killers revived slots reopened : List ℕ) (visited pending : List Bool) : Type 0 where
   pub visited-size : length visited ≡ slotsLength
   pub touched : (j : ℕ) → IsFlagged visited j → Touched R killers slots Seed j
   pub all-touched : NoOwnKill R killers slots → (j : ℕ) → Touched R killers slots Seed j → IsFlagged visited j
   pub slots-size : length reopened ≡ length slots
-  pub slot-opened : (j : ℕ) → IsFlagged visited j → getD reopened j 0 ≡ b
+  pub slot-opened : (j : ℕ) → IsFlagged visited j → getD reopened j 0 ≡ 255
   pub slot-kept : (j : ℕ) → (IsFlagged visited j → ⊥) → getD reopened j 0 ≡ getD slots j 0
   pub total : t ≡ count isVisited visited
   pub killers-size : length revived ≡ length killers

@@ -16,10 +16,6 @@ use Rattle.layout.specs.Places.{callOf, slotPlace}
 abbrev pub isVisited : Bool → Bool
 isVisited b = b
 
--- no flag is set
-abbrev pub Blank : List Bool → Type 0
-Blank l = (j : ℕ) → IsFlagged l j → ⊥
-
 -- slot byte j is that of a slot of call c in the mask
 abbrev pub CallMask : ℕ → ℕ → ℕ → Type 0
 CallMask c mask j = (s : ℕ) × (s < 32) × (j ≡ slotPlace c s) × Has mask s

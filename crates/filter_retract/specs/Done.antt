@@ -4,37 +4,24 @@ use mathlib.Core.List.{List}
 use mathlib.Core.Logic.{_⊎_}
 use mathlib.Core.Bool.{Bool, false}
 use Prim.Native.Nat.{ℕ, _*_, _-_}
-use lib.ListN.{length, set}
-use Rattle.tables.specs.Masks.{flagsOf, allFlags}
-use Rattle.tables.specs.Sweep.{Swept}
+use lib.ListN.{set}
+use Rattle.tables.specs.Sweep.{Becomes, Swept}
 use Rattle.filter_propagate.specs.Rules.{RuleBytes, reached}
-use Rattle.filter_propagate.specs.Queue.{IsFlagged}
 use Rattle.filter_propagate.specs.Steps.{Propagated}
-use Rattle.filter_relax.specs.Touched.{Seeded, CallsVisited}
+use Rattle.filter_relax.specs.Touched.{Seeded}
 use Rattle.filter_relax.specs.Relaxed.{Relaxed}
 use Rattle.filter_post.specs.Write.{RuleWritten}
 use Rattle.layout.specs.Places.{columnsOf}
 use Rattle.layout.specs.Value.{emptyRule}
 
--- an entry becomes 255
-abbrev pub Emptied : ℕ → ℕ → ℕ → Type 0
-Emptied i old new = new ≡ 255
-
 -- RULE p IS CLEARED: it is the empty rule, and its killers are 255
 pub record RuleCleared (p : ℕ) (R R′ : RuleBytes) (killers killers′ : List ℕ) : Type 0 where
   pub written : RuleWritten p emptyRule R R′
-  pub killers-empty : Swept 0 Emptied (64 * p) 64 killers killers′
+  pub killers-empty : Swept 0 (Becomes 255) (64 * p) 64 killers killers′
 
--- the slots whose cause is p
+-- the slots whose cause is p, which are the seed
 abbrev pub CausedBy : ℕ → RuleBytes → List ℕ → ℕ → Type 0
 CausedBy p R slots = Seeded slots (R .scope) p (columnsOf (R .arity) p)
-
--- the visited are the slots whose cause is p, and `calls` is the mask of the calls that have one
-pub record Seeding (p : ℕ) (R : RuleBytes) (slots visited : List ℕ) (calls : ℕ) : Type 0 where
-  pub size : length visited ≡ 32
-  pub has : (j : ℕ) → CausedBy p R slots j → IsFlagged (allFlags 32 visited) j
-  pub only : (j : ℕ) → IsFlagged (allFlags 32 visited) j → CausedBy p R slots j
-  pub calls-visited : CallsVisited (flagsOf 32 calls) (allFlags 32 visited)
 
 -- rule p is cleared, and of the rules that are pending all but p are revised, until none is: `again` slots are struck
 pub record StruckAgain (p again : ℕ) (pending : List Bool) (R R′ : RuleBytes) (killers killers′ slots slots′ : List ℕ) : Type 0 where
@@ -57,7 +44,7 @@ pub record Reworked (p : ℕ) (R R′ : RuleBytes) (killers killers′ slots slo
   pub opened : List ℕ
   pub visited : List Bool
   pub pending : List Bool
-  pub relaxed : Relaxed R (CausedBy p R slots) 255 touched killers revived slots opened visited pending
+  pub relaxed : Relaxed R (CausedBy p R slots) touched killers revived slots opened visited pending
   pub emptied : List ℕ
   pub cleared : RuleCleared p R R′ revived emptied
   pub again : ℕ

@@ -7,12 +7,13 @@ use layout::value::RuleData;
 ghost use mathlib.Core.Path.{_≡_};
 ghost use Prim.Native.Nat.{_*_, _<_};
 ghost use lib.ListN.{length};
-ghost use Rattle.tables.specs.Sweep.{Swept};
+ghost use Rattle.tables.specs.Sweep.{Becomes, Swept};
 ghost use Rattle.tables.specs.Masks.{flagsOf};
 ghost use Rattle.masks.specs.Rules.{RulesOn};
 ghost use Rattle.filter_propagate.specs.Rules.{rulesIn};
+ghost use Rattle.filter_relax.specs.Seed.{Seeding};
 ghost use Rattle.filter_post.specs.Write.{Writable};
-ghost use Rattle.filter_retract.specs.Done.{Emptied, RuleCleared, Seeding, StruckAgain, Reworked, RetractDone};
+ghost use Rattle.filter_retract.specs.Done.{RuleCleared, CausedBy, StruckAgain, Reworked, RetractDone};
 ghost use Rattle.layout.specs.Bounds.{Sizes};
 ghost use Rattle.layout.specs.Sizes.{killersLength};
 
@@ -26,7 +27,7 @@ pub struct Retraction {
 pub fn clear_killers(killers: &mut [u8], p: usize)
     requires { ⌜ length (now killers) ≡ killersLength ⌝ }
     requires { ⌜ p < 64 ⌝ }
-    ensures { λ _. ⌜ Swept 0 Emptied (64 * p) 64 (now (killers .entry)) (now (killers .exit)) ⌝ }
+    ensures { λ _. ⌜ Swept 0 (Becomes 255) (64 * p) 64 (now (killers .entry)) (now (killers .exit)) ⌝ }
 {
     let mut w = 0;
     while w < 64 {
@@ -96,7 +97,7 @@ pub fn retract_struck(
 ) -> Retraction
     requires { ⌜ Sizes (now rows) (now killers) (now slots) ⌝ }
     requires { ⌜ Writable p (rulesIn rows arity scope lengths) ⌝ }
-    requires { ⌜ Seeding p (rulesIn rows arity scope lengths) (now slots) (now visited) calls ⌝ }
+    requires { ⌜ Seeding (CausedBy p (rulesIn rows arity scope lengths) (now slots)) (now visited) calls ⌝ }
     ensures { λ r. ⌜ Reworked
         p (rulesIn (rows .entry) (arity .entry) (scope .entry) (lengths .entry))
         (rulesIn (rows .exit) (arity .exit) (scope .exit) (lengths .exit)) (now (killers .entry))
@@ -113,7 +114,6 @@ pub fn retract_struck(
         &on,
         visited,
         calls,
-        255,
     );
     let again = strike_again(
         rows,

@@ -1,11 +1,9 @@
 -- WHERE BYTES LIE in the value and in the lent buffers. Numbers are taken modulo the sizes, and columns and rows are capped, so that any bytes name a place.
-use mathlib.Core.Path.{_≡_}
 use mathlib.Core.Bool.{Bool, _&&_}
 use mathlib.Core.List.{List}
-use Prim.Native.Nat.{ℕ, _+_, _*_, _%_, _<_, min}
+use Prim.Native.Nat.{ℕ, _+_, _*_, _%_, min}
 use lib.ListN.{getD}
 use lib.Dec.{eqb, ltb}
-use Rattle.layout.specs.Sizes.{slotsLength}
 
 -- THE PLACES (SCOPE 2.1 to 2.3): of row w of rule p and its column k, of that row's killer, of slot s of call c; of column k of rule p among the heads; and of column k of
 -- row w in the rows of one rule
@@ -27,10 +25,6 @@ scopePlace p k = 4 * p + k
 abbrev pub ownPlace : ℕ → ℕ → ℕ
 ownPlace w k = 4 * w + k
 
--- the slot byte of call c and slot s, both taken modulo 32
-abbrev pub cellOf : ℕ → ℕ → ℕ
-cellOf c s = slotPlace (c % 32) (s % 32)
-
 -- the call of column k of rule p
 abbrev pub callOf : List ℕ → ℕ → ℕ → ℕ
 callOf scope p k = getD scope (scopePlace p k) 0 % 32
@@ -46,11 +40,6 @@ killerOf killers p w = getD killers (killerPlace p w) 0
 -- the slot byte of column k of row w of rule p
 unfoldable pub rowCell : List ℕ → List ℕ → ℕ → ℕ → ℕ → ℕ
 rowCell rows scope p w k = slotPlace (callOf scope p k) (slotOf rows p w k)
-
--- r is that place, and lies within the slot bytes
-pub record AtRowCell (rows scope : List ℕ) (p w k r : ℕ) : Type 0 where
-  pub is : r ≡ rowCell rows scope p w k
-  pub lt : r < slotsLength
 
 -- how many columns and rows of rule p are looked at
 abbrev pub columnsOf : List ℕ → ℕ → ℕ

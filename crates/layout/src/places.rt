@@ -1,16 +1,8 @@
 // Where bytes lie. Numbers are taken modulo the sizes and lengths are capped, so that any bytes are safe.
 ghost use mathlib.Core.Path.{_≡_};
-ghost use Prim.Native.Nat.{_+_, _%_, min};
+ghost use Prim.Native.Nat.{_%_, min};
 ghost use lib.ListN.{getD};
-ghost use Rattle.layout.specs.Places.{cellOf, AtRowCell, cancelled?};
-ghost use Rattle.layout.specs.Bounds.{InRow};
-
-// The slot byte of call c and slot s.
-pub fn cell(c: u8, s: u8) -> usize
-    ensures { λ r. ⌜ r ≡ cellOf c s ⌝ }
-{
-    32 * ((c % 32) as usize) + ((s % 32) as usize)
-}
+ghost use Rattle.layout.specs.Places.{cancelled?};
 
 // x, but at most n.
 pub fn cap(x: u8, n: usize) -> usize
@@ -18,14 +10,6 @@ pub fn cap(x: u8, n: usize) -> usize
 {
     let y = x as usize;
     if y < n { y } else { n }
-}
-
-// The slot byte of column k of row w of rule p.
-pub fn row_cell(rows: &[u8], scope: &[u8; 256], p: usize, w: usize, k: usize) -> usize
-    requires { ⌜ InRow (now rows) p w (k + 1) ⌝ }
-    ensures { λ r. ⌜ AtRowCell (now (rows .entry)) (now (scope .entry)) p w k r ⌝ }
-{
-    cell(scope[4 * p + k], rows[256 * p + 4 * w + k])
 }
 
 // The rule that a number names: modulo 64, so that any byte names one. Altered memory may hold a draft whose number is over 63.

@@ -1,9 +1,9 @@
 -- WHAT A MARK KEEPS through other commands (SCOPE 6.20).
 use mathlib.Core.Path.{_≡_}
-use mathlib.Core.List.{List, [], _∷_}
+use mathlib.Core.List.{List}
 use Prim.Native.Nat.{ℕ}
 use Rattle.layout.specs.Marks.{markedRows, markedKillers, markedSlots}
-use Rattle.layout.specs.Memory.{State, stateOf, MarkedState}
+use Rattle.layout.specs.Memory.{State, stateOf, MarkedState, Whole}
 use Rattle.layout.specs.Names.{headsUnder}
 use Rattle.layout.specs.Value.{emptyDraft, withDraft}
 use Rattle.model.specs.declared.command.Command.{Command}
@@ -12,6 +12,8 @@ use Rattle.model.specs.declared.command.Read.{Read}
 use Rattle.model.specs.declared.command.Read.the-variants as found
 use Rattle.model.specs.Commands.{readAt}
 use Rattle.model.specs.Ledger.{Member}
+use Rattle.model.specs.Lists.{Runs, done, then, Entered}
+use Rattle.model.specs.Promise.{numberOf}
 
 -- under the name lie the heads and the buffers of this state, byte for byte
 pub record Under (name : ℕ) (s : State) (m : MarkedState) : Type 0 where
@@ -20,7 +22,7 @@ pub record Under (name : ℕ) (s : State) (m : MarkedState) : Type 0 where
   pub killers : markedKillers (m .marks) name ≡ s .killers
   pub slots : markedSlots (m .marks) name ≡ s .slots
 
--- A COMMAND APART FROM A NAME keeps no board under it and makes no new board
+-- A COMMAND APART FROM A NAME, once it is accepted, keeps no board under it and makes no new board
 abbrev pub ApartKind : ℕ → Command → Type 0
 ApartKind name kind.Board = ⊥
 ApartKind name (kind.Head h) = Unit {0}
@@ -32,15 +34,15 @@ ApartKind name (kind.Keep other) = name ≡ other → ⊥
 ApartKind name (kind.Back other) = Unit {0}
 ApartKind name (kind.Cancel c) = Unit {0}
 
--- what is no command at all is apart; and so are the commands of a list
 abbrev pub ApartRead : ℕ → Read → Type 0
 ApartRead name (found.Command c) = ApartKind name c
 ApartRead name (found.Refused k n) = Unit {0}
 ApartRead name found.End = Unit {0}
 
-abbrev pub AllApart : ℕ → List Member → Type 0
-AllApart name [] = Unit {0}
-AllApart name (m ∷ ms) = ApartRead name (readAt (m .bytes) 0 .read) × AllApart name ms
+-- what is refused changes nothing, so it is apart whatever it is: each command of a list that ran
+abbrev pub AllApart : {s s′ : Whole} {ms : List Member} → ℕ → Runs Whole Member Entered s ms s′ → Type 0
+AllApart name done = Unit {0}
+AllApart name (then {m = m} entered rest) = (numberOf (entered .given) ≡ 0 → ApartRead name (readAt (m .bytes) 0 .read)) × AllApart name rest
 
 -- THE SAME BOARD WITHOUT A DRAFT: calls, rules, rows, slots, causes and killers
 abbrev pub withoutDraft : State → State

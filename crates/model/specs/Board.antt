@@ -114,14 +114,14 @@ abbrev pub Dead : Board → Rule → ℕ → Type 0
 Dead B r w = Alive B r w → ⊥
 
 -- no slot's number: what a plan has for a call that it gives no slot
-abbrev pub noSlot : ℕ
-noSlot = 255
+abbrev pub noSlotGiven : ℕ
+noSlotGiven = 255
 
 -- FULL PLAN (SCOPE 1.15, 1.22), a term of the scope: each call that is not cancelled gets a slot of its own and a cancelled one none, and every rule in force with an
 -- active column j has a row that agrees with the plan in all active columns
 pub record FullPlan (B : Board) (plan : ℕ → ℕ) : Type 0 where
   pub gives : (c : ℕ) → c < length (B .counts) → Live B c → OnBoard B c (plan c)
-  pub absent : (c : ℕ) → Cancelled B c → plan c ≡ noSlot
+  pub absent : (c : ℕ) → Cancelled B c → plan c ≡ noSlotGiven
   pub keeps : (p : ℕ) (r : Rule) → InForce B p r → (j : ℕ) → Active B r j
       → (w : ℕ) × (w < length (r .rows)) × ((k : ℕ) → Active B r k → slotAt r w k ≡ plan (callAt r k))
 
@@ -142,7 +142,7 @@ pub record SameIn (B : Board) (r : Rule) : Type 0 where
   pub same : Same r rule
 
 -- AT LEAST THE SAME RULES (SCOPE 1.17), on the same calls and counts: each rule in force on B is the same as one in force on B′, and each call cancelled on B′ is
--- cancelled on B (6.14)
+-- cancelled on B (6.14, 6.21)
 pub record AtLeast (B B′ : Board) : Type 0 where
   pub counts : B .counts ≡ B′ .counts
   pub cancelled : (c : ℕ) → Cancelled B′ c → Cancelled B c

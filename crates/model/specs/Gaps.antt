@@ -1,11 +1,12 @@
 -- GAP RULES, which order 3 calls standing forms: a rule of two calls that is given by the gap between their slots. Kind 6 drafts one.
 use mathlib.Core.Bool.{Bool, not, _&&_, _||_, cond}
-use mathlib.Core.List.{List, [], _∷_, _++_}
-use Prim.Native.Nat.{ℕ, zero, suc, _+_, _*_, _/_, _%_}
+use mathlib.Core.List.{List, [], _∷_}
+use Prim.Native.Nat.{ℕ, _+_, _*_, _/_, _%_}
 use lib.ListN.{getD}
 use lib.Dec.{eqb, ltb, leb}
 use Rattle.model.specs.declared.command.GapRule.{GapRule}
 use Rattle.model.specs.Board.{Rule}
+use Rattle.model.specs.Listing.{rowsTo}
 
 -- 23: there is no such form; 24: a gap that no two slots can have, or one that is not 0 where the slots have to be equal
 abbrev pub badForm? : ℕ → Bool
@@ -18,13 +19,16 @@ badGap? form gap = ltb 31 gap || (eqb form 3 && not (eqb gap 0))
 abbrev pub fits? : ℕ → ℕ → ℕ → ℕ → Bool
 fits? form gap a b = cond (eqb form 1) (leb (a + gap) b) (cond (eqb form 2) (leb (a + gap) b || leb (b + gap) a) (eqb a b))
 
--- THE PAIRS of slots below 32 in rising order, of the first slot and then of the second: the pair at place i, and those before place n that pass a test
+-- THE PAIRS of slots below 32 in rising order, of the first slot and then of the second: the pair at place i, whether it passes a test of two slots, and those
+-- before place n that do
 abbrev pub pairOf : ℕ → List ℕ
 pairOf i = i / 32 ∷ i % 32 ∷ []
 
+abbrev pub atPair : (ℕ → ℕ → Bool) → ℕ → Bool
+atPair f i = f (i / 32) (i % 32)
+
 abbrev pub pairsTo : ℕ → (ℕ → ℕ → Bool) → List (List ℕ)
-pairsTo zero f = []
-pairsTo (suc i) f = pairsTo i f ++ cond (f (i / 32) (i % 32)) (pairOf i ∷ []) []
+pairsTo n f = rowsTo pairOf n (atPair f)
 
 -- THE ROWS OF A FORM between calls with n and m slots: the pairs of their slots that fit
 abbrev pub pairTest : ℕ → ℕ → ℕ → ℕ → ℕ → Bool

@@ -1,9 +1,11 @@
 -- The theorems over the definitions.
 pub mod Tests
 pub mod Refusals
+pub mod Commands
 pub mod Theory
 pub mod Filter
 pub mod Shapes
+pub mod Listing
 pub mod Gaps
 pub mod OneByOne
 pub mod Change
@@ -13,6 +15,7 @@ pub mod Fresh
 pub mod Heads
 pub mod Answers
 pub mod Promised
+pub mod Members
 pub mod Lists
 pub mod Again
 pub mod Samples
@@ -25,5 +28,5 @@ pub mod Masks
 pub mod WrongBoards
 pub mod Entry
 pub mod Questions
-pub mod Screens
+pub mod AlikeBoards
 pub mod Search

@@ -210,10 +210,10 @@ obey (suc n) L r ns = L
 abbrev pub step : Ledger → CommandLent → List ℕ → Ledger
 step L lent bytes = obey (refusal L lent bytes) L (readAt bytes 0 .read) (readAt bytes 0 .counts)
 
--- the ledger after a list of members of any type, each with its effect
-abbrev pub ledgerAfter : {M : Type 0} → (Ledger → M → Ledger) → Ledger → List M → Ledger
-ledgerAfter next L [] = L
-ledgerAfter next L (m ∷ ms) = ledgerAfter next (next L m) ms
+-- the ledger, or another account K of what stands, after a list of members of any type, each with its effect
+abbrev pub ledgerAfter : {K M : Type 0} → (K → M → K) → K → List M → K
+ledgerAfter next k [] = k
+ledgerAfter next k (m ∷ ms) = ledgerAfter next (next k m) ms
 
 -- a command of a list, as the ledger is fed it; and the run of a list of them
 pub record Member : Type 0 where

@@ -6,6 +6,7 @@ pub mod Tests
 pub mod Numbers
 pub mod Refusals
 pub mod Commands
+pub mod Listing
 pub mod Gaps
 pub mod Ledger
 pub mod Filter

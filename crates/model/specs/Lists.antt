@@ -1,5 +1,5 @@
 -- WHOLE LISTS AND DEMAND 3 (SCOPE 6).
-use mathlib.Core.Path.{_≡_}
+use mathlib.Core.Path.{_≡_, refl}
 use mathlib.Core.Bool.{cond}
 use mathlib.Core.List.{List, [], _∷_}
 use mathlib.Core.Logic.{_↔_, _⊎_}
@@ -11,50 +11,88 @@ use Rattle.model.specs.Board.{Rule, Board, InForce, Live, Viable, Alive,
 use Rattle.model.specs.Records.{Open, Struck, Caused, KillerIn, NoRing, EscapeFromAll}
 use Rattle.model.specs.Ledger.{Member}
 use Rattle.model.specs.Promise.{Promise}
+use Rattle.layout.specs.declared.value.Value.{Value}
+use Rattle.layout.specs.declared.summary.Summary.{Summary}
 use Rattle.layout.specs.Places.{causeOf, killerOf}
-use Rattle.layout.specs.Memory.{State, MarkedState, Whole, stateOf, markedOf, wholeOf, lentWith, freshWhole}
-use Rattle.layout.specs.Sizes.{marksLength}
+use Rattle.layout.specs.Memory.{State, Whole, stateOf, markedOf, wholeOf, freshWhole}
+use Rattle.layout.specs.Sizes.{CommandLent, marksLength}
 
 -- A LIST OF MEMBERS TAKES ONE STATE TO ANOTHER, step by step, over any states, members and steps
 pub data Runs (S M : Type 0) (Step : M → S → S → Type 0) : S → List M → S → Type 0 where
   done : {s : S} → Runs S M Step s [] s
   then : {s s′ s″ : S} {m : M} {ms : List M} → Step m s s′ → Runs S M Step s′ ms s″ → Runs S M Step s (m ∷ ms) s″
 
--- what stands after a command that was handed a buffer or a table and left it so: one of another length was not the one that stands (SCOPE 6.3)
-abbrev pub standing : {A : Type 0} → List A → List A → List A → List A
-standing own handed left = cond (eqb (length handed) (length own)) left own
+-- WHAT IS LENT WITH A LENGTH, and so may be handed with a wrong one: the three buffers, the marks' buffer and the table; and their lengths
+pub record Buffers : Type 0 where
+  pub rows : List ℕ
+  pub killers : List ℕ
+  pub slots : List ℕ
+  pub marks : List ℕ
+  pub table : List Summary
 
--- the state that stands, buffer by buffer; the value that the command left stands
-abbrev pub standingState : State → State → State → State
-standingState own handed left =
-    stateOf (left .value) (standing (own .rows) (handed .rows) (left .rows)) (standing (own .killers) (handed .killers) (left .killers))
-    (standing (own .slots) (handed .slots) (left .slots))
+abbrev pub lengthsOf : Buffers → CommandLent
+lengthsOf b =
+    record {
+      buffers = record { rows = length (b .rows); killers = length (b .killers); slots = length (b .slots) };
+      marks = length (b .marks);
+      table = length (b .table);
+    }
 
--- and with the marks: the names that the command left stand
-abbrev pub standingMarked : MarkedState → MarkedState → MarkedState → MarkedState
-standingMarked own handed left =
-    markedOf (standingState (own .state) (handed .state) (left .state)) (left .names) (standing (own .marks) (handed .marks) (left .marks))
+-- HOW A MEMORY OF TYPE S IS LENT: what has a fixed size, of type F, and the rest with its lengths; together they are the memory
+pub record Lending (S F : Type 0) : Type 0 where
+  pub fixed : S → F
+  pub buffers : S → Buffers
+  pub together : F → Buffers → S
+  pub whole : (s : S) → together (fixed s) (buffers s) ≡ s
+
+-- of the whole that commands write, the value and the names have a fixed size
+abbrev pub wholeLending : Lending Whole (Value × List ℕ)
+wholeLending =
+    record {
+      fixed = λ w. (w .marked .state .value, w .marked .names);
+      buffers = λ w.
+          record { rows = w .marked .state .rows; killers = w .marked .state .killers; slots = w .marked .state .slots; marks = w .marked .marks; table = w .table };
+      together = λ f b. wholeOf (markedOf (stateOf (f .0) (b .rows) (b .killers) (b .slots)) (f .1) (b .marks)) (b .table);
+      whole = λ w. refl;
+    }
 
 -- what is handed of a buffer or a table: the one that stands, if its length is right; one of another length may hold anything
 abbrev pub Handed : {A : Type 0} → List A → List A → Type 0
 Handed own handed = length handed ≡ length own → handed ≡ own
 
--- ONE COMMAND OF A LIST IS ENTERED, by the entry's promise (SCOPE 6.2, 6.3). It is handed the value and the names as they stand, and each buffer and the table too if its
--- length is right; a member says which lengths are lent
-pub record Entered (m : Member) (s s′ : Whole) : Type 0 where
-  pub handed : Whole
-  pub left : Whole
-  pub given : Answer
-  pub value : handed .marked .state .value ≡ s .marked .state .value
-  pub names : handed .marked .names ≡ s .marked .names
-  pub lengths : lentWith handed ≡ m .lent
-  pub rows : Handed (s .marked .state .rows) (handed .marked .state .rows)
-  pub killers : Handed (s .marked .state .killers) (handed .marked .state .killers)
-  pub slots : Handed (s .marked .state .slots) (handed .marked .state .slots)
-  pub marks : Handed (s .marked .marks) (handed .marked .marks)
-  pub table : Handed (s .table) (handed .table)
-  pub promise : Promise handed (m .bytes) given left
-  pub stands : s′ ≡ wholeOf (standingMarked (s .marked) (handed .marked) (left .marked)) (standing (s .table) (handed .table) (left .table))
+-- what stands after a member that was handed a buffer or a table and left it so: one of another length was not the one that stands (SCOPE 6.3)
+abbrev pub standing : {A : Type 0} → List A → List A → List A → List A
+standing own handed left = cond (eqb (length handed) (length own)) left own
+
+abbrev pub standingBuffers : Buffers → Buffers → Buffers → Buffers
+standingBuffers own handed left =
+    record {
+      rows = standing (own .rows) (handed .rows) (left .rows);
+      killers = standing (own .killers) (handed .killers) (left .killers);
+      slots = standing (own .slots) (handed .slots) (left .slots);
+      marks = standing (own .marks) (handed .marks) (left .marks);
+      table = standing (own .table) (handed .table) (left .table);
+    }
+
+-- ONE MEMBER OF A LIST IS ENTERED (SCOPE 6.2, 6.3), by any promise between what it is handed, what it answers and what it leaves. It is handed what has a fixed size as
+-- it stands, and each buffer and the table too if its length is right; it says which lengths are lent. What it leaves of a fixed size stands
+pub record EnteredBy {S F A : Type 0} (P : Lending S F) (Promised : S → A → S → Type 0) (lent : CommandLent) (s s′ : S) : Type 0 where
+  pub handed : S
+  pub left : S
+  pub given : A
+  pub fixed : P .fixed handed ≡ P .fixed s
+  pub lengths : lengthsOf (P .buffers handed) ≡ lent
+  pub rows : Handed (P .buffers s .rows) (P .buffers handed .rows)
+  pub killers : Handed (P .buffers s .killers) (P .buffers handed .killers)
+  pub slots : Handed (P .buffers s .slots) (P .buffers handed .slots)
+  pub marks : Handed (P .buffers s .marks) (P .buffers handed .marks)
+  pub table : Handed (P .buffers s .table) (P .buffers handed .table)
+  pub promise : Promised handed given left
+  pub stands : s′ ≡ P .together (P .fixed left) (standingBuffers (P .buffers s) (P .buffers handed) (P .buffers left))
+
+-- ONE COMMAND OF A LIST IS ENTERED, by the command entry's promise: it is handed the value and the names as they stand
+abbrev pub Entered : Member → Whole → Whole → Type 0
+Entered m s s′ = EnteredBy {A = Answer} wholeLending (λ before given after. Promise before (m .bytes) given after) (m .lent) s s′
 
 -- WHAT STANDS AFTER THE COMMANDS OF A LIST, entered one after another on a fresh board (SCOPE 6.1), beside marks' bytes that held anything at first (2.10)
 pub record After (first : List ℕ) (ms : List Member) (s : Whole) : Type 0 where

@@ -1,3 +1,4 @@
 pub mod Parts
 pub mod Mask
+pub mod RowPart
 pub mod Laws

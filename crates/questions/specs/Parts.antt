@@ -5,8 +5,12 @@ use Prim.Native.Nat.{ℕ, _≤_, _<_}
 use denote.Ref.{RefT, now}
 use lib.ListN.{length}
 use Rattle.layout.specs.Value.{emptyDraft}
+use Rattle.layout.specs.Places.{rowsOf}
 use Rattle.layout.specs.Memory.{State, stateOf}
 use Rattle.layout.specs.Sizes.{killersLength, rowsLength}
+use Rattle.model.specs.declared.answer.Support.{Support}
+use Rattle.model.specs.Tests.{first}
+use Rattle.model.specs.Questions.{supports?, foundRow}
 
 -- a state of these parts, for a function that is handed only some of them: [] stands for a part that it does not look at, and no question looks at the draft
 abbrev pub stateOfParts : List ℕ → List ℕ → List ℕ → List ℕ → List ℕ → List ℕ → List ℕ → State
@@ -28,6 +32,14 @@ supportParts counts arity scope rows killers slots = stateOfParts (now counts) (
 
 abbrev pub searchParts : RefT (List ℕ) → RefT (List ℕ) → State
 searchParts rows killers = stateOfParts [] [] [] [] (now rows) (now killers) []
+
+-- the same with the numbers of rows
+abbrev pub lengthParts : RefT (List ℕ) → RefT (List ℕ) → RefT (List ℕ) → State
+lengthParts lengths rows killers = stateOfParts [] [] [] (now lengths) (now rows) (now killers) []
+
+-- THE SUPPORT IN AN ACTIVE COLUMN: the lowest of the rule's rows that is alive and has the slot there, or none
+abbrev pub activeSupport : State → ℕ → ℕ → ℕ → Support
+activeSupport s p k t = let m = rowsOf (s .value .heads .lengths) p in foundRow m (first m (supports? s p k t))
 
 -- WHERE A SEARCH MAY LOOK: the buffers have their lengths, p is a rule's number, m at most its rows and k one of its columns
 pub record Searchable (rows killers : List ℕ) (p m k : ℕ) : Type 0 where

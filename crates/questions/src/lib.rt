@@ -4,9 +4,8 @@ mod weights; // the table of weights in a mask
 mod read; // bytes of the value and of the lent buffers
 mod refusal; // the checks of each question
 
+use crate::read::lowest_support;
 use crate::read::open_mask;
-use crate::read::rows_of;
-use crate::read::supporting_row;
 use crate::refusal::call_refusal;
 use crate::refusal::row_refusal;
 use crate::refusal::slot_refusal;
@@ -19,8 +18,9 @@ use model::answer::OpenSlots;
 use model::answer::RowState;
 use model::answer::SlotState;
 use model::answer::Support;
-ghost use Rattle.model.specs.Questions.{SlotsPromise, StatePromise, RowPromise, RowBytesPromise, SupportPromise};
+ghost use Rattle.model.specs.Questions.{SlotsPromise, StatePromise, RowPromise, SupportPromise};
 ghost use Rattle.layout.specs.Memory.{memory};
+ghost use Rattle.questions.specs.RowPart.{RowPart};
 
 // The mask of a call's open slots, with the number of its ones.
 pub fn open_slots(value: Value, rows: &[u8], killers: &[u8], slots: &[u8], call: u8) -> OpenSlots
@@ -98,7 +98,7 @@ pub fn row_bytes<'a>(
     rule: u8,
     row: u8,
 ) -> &'a [u8]
-    ensures { λ r. ⌜ RowBytesPromise (memory value (rows .entry) (killers .entry) (slots .entry)) rule row (now r) ⌝ }
+    ensures { λ r. ⌜ RowPart value (rows .entry) (killers .entry) (slots .entry) rule row r ⌝ }
 {
     let counts = value.heads.counts;
     let arity = value.heads.arity;
@@ -147,11 +147,5 @@ pub fn support(
     ) {
         return Support::Nothing;
     }
-    let held = rows_of(&lengths, rule);
-    let row = supporting_row(rows, killers, rule as usize, held, column as usize, slot);
-    if row < held {
-        Support::Row(row as u8)
-    } else {
-        Support::Nothing
-    }
+    lowest_support(rows, killers, &lengths, rule, column, slot)
 }

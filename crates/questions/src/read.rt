@@ -2,6 +2,7 @@
 use crate::weights::slot_weights;
 use layout::places::byte_at;
 use layout::places::cap;
+use model::answer::Support;
 ghost use mathlib.Core.Bool.{cond};
 ghost use mathlib.Core.Path.{_≡_};
 ghost use Prim.Native.Nat.{_+_};
@@ -10,7 +11,7 @@ ghost use Rattle.layout.specs.Places.{columnsOf, rowsOf};
 ghost use Rattle.model.specs.Tests.{first};
 ghost use Rattle.model.specs.Report.{open?};
 ghost use Rattle.model.specs.Questions.{maskOf, supports?};
-ghost use Rattle.questions.specs.Parts.{searchParts, Searchable};
+ghost use Rattle.questions.specs.Parts.{searchParts, Searchable, lengthParts, activeSupport};
 
 // The columns of a rule; 0 where the number is not in force.
 pub fn columns_of(arity: &[u8; 64], rule: u8) -> usize
@@ -57,7 +58,7 @@ fn supports(rows: &[u8], killers: &[u8], rule: usize, w: usize, column: usize, s
 }
 
 // The lowest of the rule's first m rows that is alive and holds the slot in the column; m where there is none.
-pub fn supporting_row(
+fn supporting_row(
     rows: &[u8],
     killers: &[u8],
     rule: usize,
@@ -76,4 +77,25 @@ pub fn supporting_row(
         w += 1;
     }
     m
+}
+
+// The lowest living row of the rule that holds the slot in the column, or none.
+pub fn lowest_support(
+    rows: &[u8],
+    killers: &[u8],
+    lengths: &[u8; 64],
+    rule: u8,
+    column: u8,
+    slot: u8,
+) -> Support
+    requires { ⌜ Searchable (now rows) (now killers) rule (rowsOf (now lengths) rule) column ⌝ }
+    ensures { λ r. ⌜ r ≡ activeSupport (lengthParts (lengths .entry) (rows .entry) (killers .entry)) rule column slot ⌝ }
+{
+    let held = rows_of(lengths, rule);
+    let row = supporting_row(rows, killers, rule as usize, held, column as usize, slot);
+    if row < held {
+        Support::Row(row as u8)
+    } else {
+        Support::Nothing
+    }
 }

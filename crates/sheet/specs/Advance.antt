@@ -2,14 +2,18 @@
 use mathlib.Core.Path.{_≡_}
 use mathlib.Core.List.{List}
 use Prim.Native.Nat.{ℕ, _+_, _≤_}
+use Rattle.model.specs.declared.answer.Answer.{Answer}
+use Rattle.model.specs.declared.command.Command.{Command}
 use Rattle.model.specs.declared.command.Read.{Read}
 use Rattle.model.specs.declared.command.Read.the-variants as found
 use Rattle.model.specs.declared.command.Decoded.{Decoded}
 use Rattle.model.specs.Ledger.{Ledger, LedgerShape, obey}
 use Rattle.model.specs.Marks.{RepresentsMarked}
 use Rattle.model.specs.Sheet.{fileRefusal, readLine}
+use Rattle.command_obey.specs.Obeys.{Obeys}
 use Rattle.sheet_lines.specs.Append.{Appended}
 use Rattle.sheet.specs.declared.advance.Progress.{Progress}
+use Rattle.sheet.specs.Line.{answerLine, LineAppended}
 use Rattle.layout.specs.Memory.{MarkedState}
 use Rattle.sheet_lines.specs.Lengths.{lineMost}
 
@@ -35,6 +39,13 @@ pub record Held (s : MarkedState) : Type 0 where
   pub ledger : Ledger
   pub shape : LedgerShape ledger
   pub represents : RepresentsMarked ledger s
+
+-- A ROUND AT A COMMAND, which d has with its counts: it is obeyed, its answer gives the line, and what stands behind it is read next
+pub record CommandAdvanced (c : Command) (d : Decoded) (p : Progress) (before : MarkedState) (old : List ℕ) (r : Progress) (after : MarkedState) (new : List ℕ) : Type 0 where
+  pub given : Answer
+  pub obeys : Obeys before c (d .counts) given after
+  pub line : LineAppended (answerLine c given) (p .written) old new (r .written)
+  pub read : r .read ≡ d .next
 
 -- A ROUND from p to r, at which d was read, of an input that ends at `end`: whatever ledger the state before is of, the line is that ledger's, and the state after is
 -- the next ledger's

@@ -2,7 +2,7 @@
 use borrow.Author.Needs.{needs}
 use Rattle.berth.proofs.berth_row_place.Statement.{statement}
 use Rattle.berth.proofs.berth_row_place.Tie as tie
-use Rattle.berth.specs.Laws.Places.{place-replied}
+use Rattle.berth_reply.specs.Laws.Places.{place-replied}
 
 row-bytes-requires : tie.Need-row-bytes-requires
 row-bytes-requires c κs = search needs
@@ -11,7 +11,7 @@ of-row-bytes-requires : tie.Need-of-row-bytes-requires
 of-row-bytes-requires c κs = search needs
 
 returns : tie.Need-returns
-returns c = rw (c .of-row-bytes .ensures) (place-replied _ _ _ _ (c .before .row-bytes .ensures))
+returns c = rw (c .of-row-bytes .ensures) (place-replied _ _ _ _ (c .before .row-bytes .ensures .promise))
 
 pub berth-row-place-spec : {M : Type 1} → statement M
 berth-row-place-spec = tie.close (tie.spec row-bytes-requires of-row-bytes-requires returns)

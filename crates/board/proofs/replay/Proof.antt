@@ -4,17 +4,18 @@ use contract.Running.{givenOf, tables, tablesOf}
 use denote.Struct.Laws as LL
 use denote.Triple.Spec.{tripleOf}
 use denote.Triple.Table.{entered, cited}
-use Rattle.board.specs.Replay.{ReplayPromise}
-use Rattle.board.specs.declared.file.Replayed.{Replayed}
-use Rattle.board.specs.declared.file.ReplayDone.{ReplayDone}
-use Rattle.board.proofs.file.Replayed as E
-use Rattle.board.proofs.file.Replayed.Laws as E′
-use Rattle.board.proofs.file.ReplayDone as D
-use Rattle.board.proofs.file.ReplayDone.Laws as D′
-use Rattle.board.proofs.file.replay_core as g
-use Rattle.board.proofs.file.replay_core.Symbol as g-def
-use Rattle.board.proofs.file.replay_core.Symbol.{name as #replay-core}
-use Rattle.board.proofs.file.replay_core.Met as g-thm
+use Rattle.command_file.specs.Replay.{ReplayPromise}
+use Rattle.command_file.specs.declared.ReplayDone.{ReplayDone}
+use Rattle.layout.proofs.value.Value as B
+use Rattle.layout.proofs.value.Value.Laws as B′
+use Rattle.command_file.proofs.Replayed as E
+use Rattle.command_file.proofs.Replayed.Laws as E′
+use Rattle.command_file.proofs.ReplayDone as D
+use Rattle.command_file.proofs.ReplayDone.Laws as D′
+use Rattle.command_file.proofs.replay_core as g
+use Rattle.command_file.proofs.replay_core.Symbol as g-def
+use Rattle.command_file.proofs.replay_core.Symbol.{name as #replay-core}
+use Rattle.command_file.proofs.replay_core.Met as g-thm
 use Rattle.summary_store.proofs.store_records as h
 use Rattle.summary_store.proofs.store_records.Symbol as h-def
 use Rattle.summary_store.proofs.store_records.Symbol.{name as #store-records}
@@ -24,13 +25,14 @@ use Rattle.board.proofs.replay as f
 use Rattle.board.proofs.replay.Statement as stated
 use Rattle.board.proofs.replay.Code as code
 use Rattle.board.proofs.Tabled.{meets}
+use Rattle.board.proofs.Buffers.{board-references, bytes-of, holding}
 
 pub replay-spec : {M : Type 1} → stated.statement M
 unfolding code.routine tablesOf
 replay-spec 𝓤 H 𝓜 𝓖 𝓡 =
     let tabled = tables 𝓤 H 𝓜 𝓡 code.env in
     let known =
-    cited 𝓤 H (tripleOf 𝓤 H (𝓖 .A) g.signature (g.spec 𝓤 H (𝓖 .A) (𝓜 .mem) (𝓡 .run))) 𝓜 𝓡 code.env #replay-core g-def.routine code.calls-board·file·replay-core
+    cited 𝓤 H (tripleOf 𝓤 H (𝓖 .A) g.signature (g.spec 𝓤 H (𝓖 .A) (𝓜 .mem) (𝓡 .run))) 𝓜 𝓡 code.env #replay-core g-def.routine code.calls-command-file·replay-core
     (g-thm.met 𝓤 H 𝓜 𝓖 𝓡) in
     let known-store =
     cited 𝓤 H (tripleOf 𝓤 H (𝓖 .A) h.signature (h.spec 𝓤 H (𝓖 .A) (𝓜 .mem) (𝓡 .run))) 𝓜 𝓡 code.env #store-records h-def.routine code.calls-summary-store·store-records
@@ -40,5 +42,6 @@ replay-spec 𝓤 H 𝓜 𝓖 𝓡 =
     record { offset = _; lies = refl; is = λ d vs is. LL.owed D.the-type D′.the-laws d vs is .0 }
     record { offset = _; lies = refl; is = λ d vs is. LL.owed D.the-type D′.the-laws d vs is .1 .0 }
     record { offset = _; lies = refl; is = λ d vs is. LL.owed D.the-type D′.the-laws d vs is .1 .1 .0 }
-    #replay-core (λ (r : Replayed). r .value) (λ file before r after. ReplayPromise before file (r .number) (r .ran) after)
+    B.the-type B′.the-laws board-references #replay-core
+    (λ _ v a old r e new. ReplayPromise (holding v a old) (bytes-of a) (r .number) (r .ran) (holding (r .value) e new))
     𝓤 H (𝓖 .A) (givenOf 𝓤 H 𝓜 𝓖) (𝓜 .mem) (𝓡 .run) (tablesOf 𝓤 H 𝓜 tabled) known known-store)

@@ -16,6 +16,7 @@ use Rattle.model.specs.Lists.{After}
 use Rattle.model.specs.Laws.Lists.{demand-3, demand-3-two, runs-represent}
 use Rattle.model.specs.Laws.Summary.{absent-zero, cancelled-zero, total-of-records, total-of-bytes}
 use Rattle.model.specs.Laws.Cancelled.{cancelled-byte}
+use Rattle.model.specs.Laws.Change.{byte-on}
 use Rattle.layout.specs.Places.{causeOf, killerOf, cancelledByte}
 use Rattle.layout.specs.Summary.{noSummary}
 use Rattle.layout.specs.Sizes.{recordsLength}
@@ -35,6 +36,14 @@ module _ {first : List ℕ} (ms : List Member) (s : Whole) (after : After first 
 
   known : Recorded B cause killer
   known = runs-represent ms s after .1 .state .stored .recorded
+
+  -- OPEN AND STRUCK BY THE BYTE ALONE (SCOPE 6.4): at a call and a slot below 32 the byte 255 is that of an open slot of the board,
+  pub byte-open : (c t : ℕ) → c < 32 → t < 32 → cause c t ≡ 255 → Open B cause c t
+  byte-open c t lc lt e = (byte-on B cause (runs-represent ms s after .1 .state .stored .off) c t lc lt (inl e), e)
+
+  -- and a byte below 64 that of a struck one: so the board has the slot, and its call takes part (`on-live`)
+  pub byte-struck : (c t : ℕ) → c < 32 → t < 32 → cause c t < 64 → Struck B cause c t
+  byte-struck c t lc lt h = (byte-on B cause (runs-represent ms s after .1 .state .stored .off) c t lc lt (inr h), h)
 
   -- no set at all, with a test or without one, is a ring (SCOPE 6.12, 1.13)
   pub rings-empty : (E : ℕ → ℕ → Type 0) → Ring B cause killer E → ⊥

@@ -28,7 +28,7 @@ use Rattle.model.specs.Sheet.{endLine, totalLine, callLines, boardLines, fileRe
 use Rattle.layout.specs.Memory.{Whole}
 use Rattle.model.specs.Lists.{After}
 use Rattle.board.specs.Lists.{boardAfter}
-use Rattle.board.specs.Replay.{partOf, commandsBy, commandsFrom, fileCommands}
+use Rattle.command_file.specs.Replay.{partOf, commandsBy, commandsFrom, fileCommands}
 use Rattle.board.specs.Sheet.{Prints, commandLines, ledgerFrom}
 use Rattle.board.specs.Laws.Demands.{total-records, total-bytes}
 

@@ -11,9 +11,9 @@ use lib.Seq.{getD-set-same, getD-set-other, getD-append-seam}
 use borrow.Author.Tests.{lt-ltb, le-ltb}
 use Rattle.tables.specs.Laws.Facts.{eq-or-ne, lt-or-le}
 use Rattle.layout.specs.Places.{ownPlace}
-use Rattle.model.specs.Gaps.{pairsTo}
+use Rattle.model.specs.Gaps.{pairOf, atPair, pairsTo}
 use Rattle.model.specs.Laws.Tests.{count-bound}
-use Rattle.model.specs.Laws.Gaps.{pairs-count}
+use Rattle.model.specs.Laws.Listing.{listed-count}
 use Rattle.command_gap.specs.Pairs.{withPair, Listed, ListedTo}
 
 pub listed-none : (f : ℕ → ℕ → Bool) → ListedTo f 0 (replicate 256 255) 0
@@ -114,7 +114,7 @@ module _ {f : ℕ → ℕ → Bool} {i count a b : ℕ} {rows : List ℕ} {t : B
 
 -- there are no more of them than places
 pub listed-few : {f : ℕ → ℕ → Bool} {i count : ℕ} {rows : List ℕ} → ListedTo f i rows count → count ≤ i
-listed-few {f} {i} old = omega (arith, old .listed .count-is, pairs-count i f, count-bound i (λ j. f (j / 32) (j % 32)))
+listed-few {f} {i} old = omega (arith, old .listed .count-is, listed-count pairOf (atPair f) i, count-bound i (atPair f))
 
 -- after the last place, where the loop's test says that i is n
 pub listed-all : {f : ℕ → ℕ → Bool} {i count : ℕ} {rows : List ℕ} (n : ℕ) → ListedTo f i rows count → i ≤ n → n ≤ i → Listed (pairsTo n f) rows count

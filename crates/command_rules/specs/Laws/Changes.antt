@@ -10,11 +10,11 @@ use borrow.Author.Tests.{ltb-false}
 use Rattle.model.specs.declared.answer.Answer.{Answer}
 use Rattle.model.specs.declared.answer.Answer.the-variants as answer
 use Rattle.model.specs.declared.command.Command.the-variants as kind
-use Rattle.model.specs.Board.{Board, GoodRule}
+use Rattle.model.specs.Board.{Rule, Board, GoodRule}
 use Rattle.model.specs.Tests.{isNone}
 use Rattle.model.specs.Ledger.{NumberedRule, Ledger, LedgerShape, draftOr, notInForce?, withRule, kindConditions, effect}
 use Rattle.model.specs.Report.{Reports}
-use Rattle.model.specs.Representation.{Drafted, Represents}
+use Rattle.model.specs.Representation.{RuleHeld, Drafted, Represents}
 use Rattle.model.specs.Promise.{KindPromise}
 use Rattle.model.specs.Laws.Fresh.{empty-held}
 use Rattle.model.specs.Laws.Refusals.{none-holds}
@@ -46,6 +46,19 @@ is-free (some a) e = absurd (true≢false e)
 heads-kept : (before after : State) → after .value .heads .counts ≡ before .value .heads .counts
     → after .value .heads ≡ withRuleHeads (before .value .heads) (stateRules after)
 heads-kept before after e = rw (← e) refl
+
+-- A DRAFT THAT IS POSTED under a free number, on memory that represents a ledger: it represents the ledger with the rule in force, and the draft that it had
+pub posted-represents : (posted : Draft) (before after : State) (given : Answer) → Posted posted before given after → (L : Ledger) → LedgerShape L → Represents L before
+    → posted .number < 64 → getD (L .board .rules) (posted .number) none ≡ none → (r : Rule) → GoodRule (L .board .counts) r → RuleHeld r (posted .rule)
+    → Represents (record { board = withRule (L .board) (posted .number) (some r); draft = L .draft; marks = L .marks }) after
+posted-represents posted before after given done L shape is small free r good held =
+    let number : posted .number % 64 ≡ posted .number = omega arith in
+    record {
+      stored = rw (heads-kept before after (done .counts))
+          (post-stored (L .board) (shape .board) (posted .number) small free r good held
+          (before .value .heads) (before .rows) (before .killers) (before .slots) (is .stored) (stateRules after) (rw number at (done .done)));
+      drafted = rw (done .draft) (is .drafted);
+    }
 
 -- KIND 4
 module _ (before : State) (ns : List ℕ) where
@@ -80,14 +93,10 @@ module _ (before : State) (ns : List ℕ) where
         go none drafted good some-draft free = absurd (true≢false some-draft)
         go (some d) drafted good some-draft free =
             let g = good d refl in
-            let number : before .value .draft .number % 64 ≡ d .number = omega (arith, drafted .number, g .0) in
+            let small : before .value .draft .number < 64 = omega (arith, drafted .number, g .0) in
             let untaken = is-free (getD (L .board .rules) (d .number) none) free in
-            record {
-              stored = rw (heads-kept before after (done .counts))
-                  (post-stored (L .board) (shape .board) (d .number) (g .0) untaken (d .rule) (g .1)
-                  (drafted .rule) (before .value .heads) (before .rows) (before .killers) (before .slots) (is .stored) (stateRules after) (rw number at (done .done)));
-              drafted = rw is-empty empty-drafted;
-            }
+            let h = posted-represents (before .value .draft) before left given done L shape is small (rw (drafted .number) untaken) (d .rule) (g .1) (drafted .rule) in
+            record { stored = rw (drafted .number) at (h .stored); drafted = rw is-empty empty-drafted }
 
     pub post-accepted : 0 ≡ firstOf checks → KindPromise before kind.Post ns given after
     post-accepted e =
@@ -100,6 +109,17 @@ module _ (before : State) (ns : List ℕ) where
           post-represents L shape is (sym passes),
         )))
 
+-- A RULE THAT IS RETRACTED
+module _ (n : ℕ) (before after : State) (given : Answer) (done : Retracted n before given after) (L : Ledger) (shape : LedgerShape L) (is : Represents L before) (ln : n < 64) where
+  pub retracted : RetractStored (L .board) n (before .value .heads) (stateRules after) (before .killers) (after .killers) (before .slots) (after .slots) (done .reopened) (done .touched)
+  retracted =
+      let number : n % 64 ≡ n = omega arith in
+      retract-stored (L .board) (shape .board) n ln (before .value .heads) (before .rows) (before .killers) (before .slots) (is .stored) (rw number at (done .done))
+
+  -- the memory represents the ledger without a rule there
+  pub retracted-represents : Represents (record { board = withRule (L .board) n none; draft = L .draft; marks = L .marks }) after
+  retracted-represents = record { stored = rw (heads-kept before after (done .counts)) (retracted .stored); drafted = rw (done .draft) (is .drafted) }
+
 -- KIND 5
 module _ (n : ℕ) (before : State) (ns : List ℕ) where
   pub retract-refused : (m : ℕ) → (m ≡ 0 → ⊥) → m ≡ firstOf (retractChecks (before .value .heads .counts) (before .value .heads .arity) n)
@@ -107,12 +127,6 @@ module _ (n : ℕ) (before : State) (ns : List ℕ) where
   retract-refused m ne e = promise-refused before (kind.Retract n) ns m ne (λ L shape is. e ∙ retract-checks-same L shape before is n ns)
 
   module _ (given : Answer) (after : State) (done : Retracted n before given after) where
-    retracted : (L : Ledger) → LedgerShape L → Represents L before → n < 64
-        → RetractStored (L .board) n (before .value .heads) (stateRules after) (before .killers) (after .killers) (before .slots) (after .slots) (done .reopened) (done .touched)
-    retracted L shape is ln =
-        let number : n % 64 ≡ n = omega arith in
-        retract-stored (L .board) (shape .board) n ln (before .value .heads) (before .rows) (before .killers) (before .slots) (is .stored) (rw number at (done .done))
-
     retract-reports : {B : Board} → RetractStored B n (before .value .heads) (stateRules after) (before .killers) (after .killers) (before .slots) (after .slots) (done .reopened) (done .touched)
         → Reports B (kind.Retract n) before after (retractReport (done .reopened) (done .touched))
     retract-reports h =
@@ -129,8 +143,8 @@ module _ (n : ℕ) (before : State) (ns : List ℕ) where
         (λ L shape is.
         let passes = e ∙ retract-checks-same L shape before is n ns in
         let named = none-holds (kindConditions L (kind.Retract n) ns) tt (sym passes) refused.badNumber in
-        let h = retracted L shape is (omega (arith, ltb-false 63 n named)) in (
+        let ln : n < 64 = omega (arith, ltb-false 63 n named) in (
           passes,
-          retract-reports h,
-          record { stored = rw (heads-kept before after (done .counts)) (h .stored); drafted = rw (done .draft) (is .drafted) },
+          retract-reports (retracted n before after given done L shape is ln),
+          retracted-represents n before after given done L shape is ln,
         )))

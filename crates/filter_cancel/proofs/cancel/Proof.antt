@@ -1,7 +1,7 @@
 -- A call with a struck slot is cancelled with what its slots touched; one without has none in its seed, and is only withdrawn.
 use mathlib.Core.Logic.{inl, inr}
 use denote.Ref.{now}
-use Rattle.filter_cancel.specs.Laws.Done.{seeding, quiet}
+use Rattle.filter_cancel.specs.Laws.Done.{struck-seeding, quiet}
 use borrow.Author.Needs.{needs}
 use Rattle.filter_cancel.proofs.cancel.Statement.{statement}
 use Rattle.filter_cancel.proofs.cancel.Tie as tie
@@ -10,13 +10,13 @@ slots-below-requires : tie.Need-slots-below-requires
 slots-below-requires c κs = search needs
 
 visit-call-requires : tie.Need-visit-call-requires
-visit-call-requires c κs = search needs
+visit-call-requires c κs = search
 
 withdraw-requires : tie.Need-withdraw-requires
-withdraw-requires c κs = search needs
+withdraw-requires c κs = search
 
 same-length : tie.Need-same-length
-same-length c = search needs
+same-length c = search
 
 returns : tie.Need-returns
 returns c =
@@ -33,13 +33,13 @@ cancel-struck-requires c κs =
     let masked = visited .before .before in
     let start = masked .before .before .before .before .before in
     let asked = start .pre in
-    (asked .0, (asked .1 .0, (asked .1 .1, seeding (now (start .args .slots)) (start .args .c) (masked .slots-below .ensures) (visited .visit-call .ensures))))
+    (asked .0, (asked .1 .0, (asked .1 .1, struck-seeding (now (start .args .slots)) (start .args .c) (masked .slots-below .ensures) (visited .visit-call .ensures))))
 
 same-length-2 : tie.Need-same-length-2
-same-length-2 c = search needs
+same-length-2 c = search
 
 same-length-3 : tie.Need-same-length-3
-same-length-3 c = search needs
+same-length-3 c = search
 
 returns-2 : tie.Need-returns-2
 returns-2 c = inr (c .before .before .before .before .cancel-struck .ensures)

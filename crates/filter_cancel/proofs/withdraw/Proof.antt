@@ -1,6 +1,6 @@
 -- One slot byte more is that of a cancelled call in each round.
 use mathlib.Core.Path.{refl}
-use Prim.Native.Nat.{_≤_, _*_, _-_}
+use Prim.Native.Nat.{_≤_, _-_}
 use native.Mathlib.Omega.{arith}
 use Rattle.tables.specs.Laws.Sweep.{one-set, swept-none, swept-more, swept-at}
 use Rattle.filter_cancel.specs.Done.{Withdrawn}
@@ -36,7 +36,7 @@ loop-again : tie.Need-loop-again Inv-loop μ-loop
 loop-again c = (omega arith, swept-more 0 _ _ _ _ _ _ (c .before .loop .inv .1) (one-set 0 _ _ _ _ _ (omega arith) refl))
 
 same-length : tie.Need-same-length Inv-loop μ-loop
-same-length c = search needs
+same-length c = search
 
 returns : tie.Need-returns Inv-loop μ-loop
 returns c = swept-at 0 _ _ (c .before .loop .inv .1) (omega arith) (omega arith)

@@ -4,7 +4,7 @@ use mathlib.Core.List.{List}
 use mathlib.Core.Bool.{Bool}
 use Prim.Native.Nat.{ℕ, _-_, _/_, _<_}
 use native.Mathlib.Omega.{arith}
-use lib.ListN.{length, getD, set, length-set, replicate, length-replicate}
+use lib.ListN.{length, getD, set, length-set, replicate}
 use lib.Seq.{getD-set-same, getD-set-other}
 use Rattle.tables.specs.Count.{count}
 use Rattle.tables.specs.Masks.{IsMask, flagsOf, allFlags}
@@ -14,41 +14,25 @@ use Rattle.filter_propagate.specs.Rules.{RuleBytes, reached}
 use Rattle.filter_propagate.specs.Queue.{IsFlagged}
 use Rattle.filter_propagate.specs.Steps.{Propagated}
 use Rattle.filter_relax.specs.Spread.{isVisited, CallMask, Adds}
+use Rattle.filter_relax.specs.Seed.{Seeding}
 use Rattle.filter_relax.specs.Relaxed.{Relaxed}
-use Rattle.filter_relax.specs.Laws.Spread.{blank-replicate, adds-same, adds-size}
-use Rattle.filter_relax.specs.Laws.Seed.{seed-visited, seed-only, seed-calls}
+use Rattle.filter_relax.specs.Laws.Seed.{adds-masked, seeding, seed-empty}
 use Rattle.filter_relax.specs.Laws.Reopen.{zero-none}
-use Rattle.filter_relax.specs.Laws.Relaxed.{relaxed-same, seed-empty}
+use Rattle.filter_relax.specs.Laws.Relaxed.{relaxed-from}
 use Rattle.layout.specs.Bounds.{Sizes}
 use Rattle.layout.specs.Places.{causeOf}
-use Rattle.filter_cancel.specs.Done.{OwnStruck, CancelSeeding, Withdrawn, Beside, CancelQuiet, CancelReworked}
+use Rattle.filter_cancel.specs.Done.{OwnStruck, Withdrawn, Beside, StruckWithout, OthersCounted, CancelQuiet, CancelReworked}
 
 -- visited among none, the mask of the call's slots below 64 is the seed of its cancellation
 module _ (slots : List ℕ) (c : ℕ) {mask calls : ℕ} {visited : List ℕ} (m : IsMask (λ s. causeOf slots c s < 64) 32 mask) (adds : Adds (CallMask c mask) (replicate 32 0) visited 0 calls) where
-  adds-struck : Adds (OwnStruck slots c) (replicate 32 0) visited 0 calls
-  adds-struck = adds-same (CallMask c mask) (OwnStruck slots c) back forth adds
-    where
-      back : (j : ℕ) → OwnStruck slots c j → CallMask c mask j
-      back j x = (x .0, x .1, x .2, m .has (x .0) (x .1) (rw (x .2) at (x .3)))
-
-      forth : (j : ℕ) → CallMask c mask j → OwnStruck slots c j
-      forth j x = (x .0, x .1, x .2, rw (x .2) (m .only (x .0) (x .3) .1))
-
-  pub seeding : CancelSeeding c slots visited calls
-  seeding =
-      let l : length visited ≡ 32 = adds-size adds ∙ length-replicate {A = ℕ} 32 0 in
-      record {
-        size = l;
-        has = seed-visited l blank-replicate adds-struck;
-        only = seed-only l blank-replicate adds-struck;
-        calls-visited = seed-calls l blank-replicate adds-struck;
-      }
+  pub struck-seeding : Seeding (OwnStruck slots c) visited calls
+  struck-seeding = seeding (adds-masked c m (λ s l h. (s, l, refl, h)) (λ j x. (x .0, x .1, x .2, rw (x .2) at (x .3))) adds)
 
   -- where no call has one there is none
   pub quiet : {n : ℕ} {killers slots′ : List ℕ} → calls ≡ 0 → Withdrawn c n slots slots′ → CancelQuiet c n killers killers slots slots′ 0 0
   quiet z w =
       record {
-        none = seed-empty (length-replicate {A = ℕ} 32 0) blank-replicate adds-struck z;
+        none = seed-empty struck-seeding z;
         withdrawn = w;
         killers-same = refl;
         none-reopened = refl;
@@ -84,13 +68,17 @@ module _ (masks : List ℕ) (c : ℕ) (inside : c < length masks) where
 pub withdrawn-sizes : (c : ℕ) {n : ℕ} {rows killers slots slots′ : List ℕ} → Withdrawn c n slots slots′ → Sizes rows killers slots → Sizes rows killers slots′
 withdrawn-sizes c w s = record { rows-size = s .rows-size; killers-size = s .killers-size; slots-size = w .len ∙ s .slots-size }
 
+-- and propagation follows it
+pub struck-without : {c n again : ℕ} {pending flags : List Bool} {R : RuleBytes} {killers killers′ slots slots′ left : List ℕ} → Withdrawn c n slots left
+    → Propagated R again (reached killers left pending) (reached killers′ slots′ flags) → StruckWithout c n again pending R killers killers′ slots slots′
+struck-without {flags = flags} {left = left} w p = record { left = left; withdrawn = w; flags = flags; propagated = p }
+
 -- the reopening, the withdrawal and propagation. Of the touched slots those of call c are not counted
-pub reworked : (masks : List ℕ) {c n calls all own again touched reopened : ℕ} {R : RuleBytes} {killers killers′ slots slots′ seeded revived opened left : List ℕ} {pending flags : List Bool}
-    → c < 32 → CancelSeeding c slots seeded calls → Relaxed R (IsFlagged (allFlags 32 seeded)) 255 all killers revived slots opened (allFlags 32 masks) pending
-    → Withdrawn c n opened left → Propagated R again (reached revived left pending) (reached killers′ slots′ flags)
-    → own ≡ count isVisited (flagsOf 32 (getD masks c 0)) → touched ≡ all - own → reopened ≡ touched - again
+pub reworked : {masks : List ℕ} {c n calls all again touched reopened : ℕ} {R : RuleBytes} {killers killers′ slots slots′ seeded revived opened : List ℕ} {pending : List Bool}
+    → c < 32 → Seeding (OwnStruck slots c) seeded calls → Relaxed R (IsFlagged (allFlags 32 seeded)) all killers revived slots opened (allFlags 32 masks) pending
+    → StruckWithout c n again pending R revived killers′ opened slots′ → OthersCounted masks c all again reopened touched
     → CancelReworked c n R killers killers′ slots slots′ reopened touched
-reworked masks {c} {all = all} {again = again} {revived = revived} {opened} {left} {pending} {flags} lc s x w p own touched difference =
+reworked {masks} {c} {all = all} {again = again} {revived = revived} {opened} {pending} lc s x a o =
     let inside : c < length masks = omega (arith, x .visited-size, all-length 32 masks) in
     record {
       revived = revived;
@@ -98,14 +86,14 @@ reworked masks {c} {all = all} {again = again} {revived = revived} {opened} {lef
       visited = allFlags 32 masks;
       pending = pending;
       all = all;
-      relaxed = relaxed-same (s .only) (s .has) x;
-      left = left;
-      withdrawn = w;
+      relaxed = relaxed-from s x;
+      left = a .left;
+      withdrawn = a .withdrawn;
       again = again;
-      flags = flags;
-      propagated = p;
+      flags = a .flags;
+      propagated = a .propagated;
       others = allFlags 32 (set masks c 0);
       beside = beside masks c inside;
-      total = omega (arith, x .total, count-beside masks c inside);
-      difference = difference;
+      total = omega (arith, o .less-own, x .total, count-beside masks c inside);
+      difference = o .less-again;
     }

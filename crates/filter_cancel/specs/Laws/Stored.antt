@@ -1,7 +1,7 @@
 -- A CANCELLATION LEADS FROM A STORED BOARD TO A STORED BOARD with the call cancelled, with S, R and T as they have to be. It is the law of relaxation again, from the
 -- call's own struck slots. Assumes nothing.
 use mathlib.Core.Path.{_≡_, refl, sym, _∙_}
-use mathlib.Core.Bool.{Bool, true, false, not, _&&_}
+use mathlib.Core.Bool.{Bool, false, not, _&&_}
 use mathlib.Core.List.{List}
 use mathlib.Core.Logic.{_⊎_, _≢_, inl, inr, ⊎-elim}
 use Prim.Native.Nat.{ℕ, _+_, _*_, _/_, _%_, _<_, _≤_}
@@ -18,14 +18,14 @@ use Rattle.model.specs.Records.{Struck, Sound}
 use Rattle.model.specs.Changes.{Weaker, Seeds, OwnSlot}
 use Rattle.model.specs.Ledger.{cancelCall}
 use Rattle.model.specs.Representation.{ruleAt, Headed, offByte, Stored}
-use Rattle.model.specs.Laws.Tests.{and→, →and, →T, T→, →eqb, same-test, count-none}
+use Rattle.model.specs.Laws.Tests.{and→, →and, and-false, →T, T→, →eqb, same-test, count-none}
 use Rattle.model.specs.Laws.Reports.{slots-same}
 use Rattle.model.specs.Laws.Touched.{smallest-none}
 use Rattle.model.specs.Laws.Theory.{on-live, on-count, live-not}
 use Rattle.model.specs.Laws.Shapes.{shape-cancelled}
 use Rattle.model.specs.Laws.Change.{on-range, byte-on, off-limits, on-weaker, cancelled-itself, cancel-live, cancel-weaker, cancel-seeds}
 use Rattle.filter_propagate.specs.Rules.{RuleBytes, reached}
-use Rattle.filter_propagate.specs.Strikes.{isOpen, isStruck}
+use Rattle.filter_support.specs.Strikes.{isOpen, isStruck}
 use Rattle.filter_propagate.specs.Stable.{StableBytes}
 use Rattle.filter_propagate.specs.Queue.{IsFlagged}
 use Rattle.filter_propagate.specs.Laws.Kept.{steps-slots, propagated-lost}
@@ -41,10 +41,6 @@ use Rattle.filter_meaning.specs.Laws.Relaxing.{visited-smallest, visited-were-s
 use Rattle.filter_meaning.specs.Laws.Settled.{settled, at-rest, propagated-stored}
 use Rattle.filter_cancel.specs.Done.{OwnStruck, Withdrawn, CancelQuiet, CancelReworked, CancelDone}
 use Rattle.filter_cancel.specs.Stored.{CancelStored}
-
-and-false : (a : Bool) → (a && false) ≡ false
-and-false true = refl
-and-false false = refl
 
 -- A WITHDRAWAL leaves the slots of other calls, and each byte is as it was or a cancelled call's
 module _ (c n : ℕ) {old new : List ℕ} (few : n ≤ 32) (w : Withdrawn c n old new) where
@@ -232,7 +228,7 @@ module _ (B : Board) (shape : Shape B) (c : ℕ) (there : c < length (B .counts)
         };
       }
     where
-      x : Relaxed (bytesIn heads rows) (OwnStruck slots c) 255 (d .all) killers (d .revived) slots (d .opened) (d .visited) (d .pending)
+      x : Relaxed (bytesIn heads rows) (OwnStruck slots c) (d .all) killers (d .revived) slots (d .opened) (d .visited) (d .pending)
       x = d .relaxed
 
       was : (j : ℕ) → IsFlagged (d .visited) j → getD slots j 0 < 64

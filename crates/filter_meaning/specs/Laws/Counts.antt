@@ -13,10 +13,10 @@ use Rattle.tables.specs.Lost.{lost, SameOrLost, OnlyLost}
 use Rattle.model.specs.Tests.{countBelow}
 use Rattle.model.specs.Report.{slotCount, struckBetween, reopenedBetween, struckIn}
 use Rattle.model.specs.Laws.Tests.{and→, not→, count-same, count-none}
-use Rattle.filter_propagate.specs.Strikes.{isOpen, isStruck}
+use Rattle.filter_support.specs.Strikes.{isOpen, isStruck}
 use Rattle.layout.specs.Places.{causeOf}
 use Rattle.tables.specs.Laws.Lost.{lost-back}
-use Rattle.filter_propagate.specs.Laws.Strikes.{open-not-struck}
+use Rattle.filter_support.specs.Laws.Strikes.{open-not-struck}
 use Rattle.tables.specs.Laws.Facts.{true-false, true-or-false}
 use Rattle.filter_relax.specs.Spread.{isVisited}
 use Rattle.filter_meaning.specs.Counts.{Neither, Reopening}

@@ -19,7 +19,7 @@ use Rattle.model.specs.Laws.Theory.{live-not, not-live, on-live, active-below, 
 use Rattle.model.specs.Laws.Change.{number-below, on-range, byte-on, off-limits, weaker-viable, reopen-sound}
 use Rattle.filter_propagate.specs.Rules.{RuleBytes}
 use Rattle.filter_propagate.specs.Queue.{IsFlagged}
-use Rattle.filter_propagate.specs.Strikes.{isOpen, isStruck}
+use Rattle.filter_support.specs.Strikes.{isOpen, isStruck}
 use Rattle.filter_relax.specs.Reach.{seed, joins}
 use Rattle.filter_relax.specs.Touched.{NoOwnKill, Justifies, Touched}
 use Rattle.filter_relax.specs.Relaxed.{Relaxed}
@@ -79,7 +79,7 @@ module _ (B : Board) (shape : Shape B) (R : RuleBytes) (known : RulesOf B R) (ki
   -- from a seed of struck slots, over the bytes and on the board
   module _ (Bytes : ℕ → Type 0) (Seed : ℕ → ℕ → Type 0) (struck : (j : ℕ) → Bytes j → getD slots j 0 < 64)
       (seeded : (c s : ℕ) → Struck B (causeOf slots) c s → Seed c s → Bytes (slotPlace c s)) {t : ℕ} {revived opened : List ℕ} {visited pending : List Bool}
-      (x : Relaxed R Bytes 255 t killers revived slots opened visited pending) where
+      (x : Relaxed R Bytes t killers revived slots opened visited pending) where
     -- a visited slot was struck
     pub visited-were-struck : (j : ℕ) → IsFlagged visited j → getD slots j 0 < 64
     visited-were-struck j f = ⊎-elim (struck j) (λ h. h) (touched-struck R killers slots (x .touched j f))

@@ -13,8 +13,8 @@ use Rattle.model.specs.Representation.{ruleOr, ruleAt, offByte}
 use Rattle.model.specs.Laws.Theory.{on-live, active-below, below-active}
 use Rattle.model.specs.Laws.Change.{strike-sound, kill-sound, on-range, off-limits, byte-on}
 use Rattle.filter_propagate.specs.Rules.{RuleBytes, Progress}
-use Rattle.filter_propagate.specs.Rows.{Unsupported}
-use Rattle.filter_propagate.specs.Strikes.{ColumnWith}
+use Rattle.filter_support.specs.Rows.{Unsupported}
+use Rattle.filter_support.specs.Strikes.{ColumnWith}
 use Rattle.filter_propagate.specs.Step.{Stepped}
 use Rattle.filter_propagate.specs.Steps.{Steps}
 use Rattle.filter_propagate.specs.Kept.{Kill}

@@ -4,19 +4,19 @@ use Rattle.filter_post.proofs.post.Statement.{statement}
 use Rattle.filter_post.proofs.post.Tie as tie
 
 write-rule-requires : tie.Need-write-rule-requires
-write-rule-requires c κs = search needs
+write-rule-requires c κs = search
 
 propagate-from-requires : tie.Need-propagate-from-requires
 propagate-from-requires c κs = search needs
 
 same-length : tie.Need-same-length
-same-length c = search needs
+same-length c = search
 
 same-length-2 : tie.Need-same-length-2
-same-length-2 c = search needs
+same-length-2 c = search
 
 same-length-3 : tie.Need-same-length-3
-same-length-3 c = search needs
+same-length-3 c = search
 
 returns : tie.Need-returns
 returns c =

@@ -1,7 +1,6 @@
 -- With no call known the tables may hold anything.
 use mathlib.Core.Path.{refl}
-use Rattle.filter_propagate.specs.Laws.Known.{known-none}
-use borrow.Author.Needs.{needs}
+use Rattle.filter_support.specs.Laws.Known.{known-none}
 use Rattle.filter_propagate.proofs.propagate.Statement.{statement}
 use Rattle.filter_propagate.proofs.propagate.Tie as tie
 
@@ -11,10 +10,10 @@ propagate-known-requires c κs =
     (start .0, (start .1, known-none _ _ _ refl refl))
 
 same-length : tie.Need-same-length
-same-length c = search needs
+same-length c = search
 
 same-length-2 : tie.Need-same-length-2
-same-length-2 c = search needs
+same-length-2 c = search
 
 returns : tie.Need-returns
 returns c = c .before .before .before .before .propagate-known .ensures

@@ -2,14 +2,14 @@
 use denote.Ref.{now}
 use mathlib.Core.Path.{refl}
 use native.Mathlib.Omega.{arith}
-use Rattle.filter_propagate.specs.Strikes.{isOpen}
+use Rattle.filter_support.specs.Strikes.{isOpen}
 use Rattle.filter_propagate.specs.Steps.{start, more}
 use Rattle.tables.specs.Laws.Count.{count-le}
 use Rattle.filter_propagate.specs.Laws.Queue.{none-idle}
 use Rattle.filter_propagate.specs.Laws.Step.{first-enqueued, first-quiet}
 use Rattle.filter_propagate.specs.Laws.Steps.{propagated-before}
 use Rattle.filter_propagate.specs.Laws.Kept.{revised-sizes}
-use Rattle.filter_propagate.specs.Laws.Known.{known-none}
+use Rattle.filter_support.specs.Laws.Known.{known-none}
 use borrow.Author.Needs.{needs}
 use Rattle.filter_propagate.proofs.propagate_from.Statement.{statement}
 use Rattle.filter_propagate.proofs.propagate_from.Tie as tie
@@ -20,10 +20,10 @@ revise-requires c κs =
     (start .0, (start .1, known-none _ _ _ refl refl))
 
 same-length : tie.Need-same-length
-same-length c = search needs
+same-length c = search
 
 same-length-2 : tie.Need-same-length-2
-same-length-2 c = search needs
+same-length-2 c = search
 
 returns : tie.Need-returns
 returns c =
@@ -37,7 +37,7 @@ rules-on-calls-requires : tie.Need-rules-on-calls-requires
 rules-on-calls-requires c κs = search needs
 
 enqueue-requires : tie.Need-enqueue-requires
-enqueue-requires c κs = search needs
+enqueue-requires c κs = search
 
 propagate-known-requires : tie.Need-propagate-known-requires
 propagate-known-requires c κs =

@@ -8,8 +8,8 @@ use Rattle.tables.specs.Masks.{Has, flagsOf}
 use Rattle.layout.specs.Bounds.{Sizes}
 use Rattle.masks.specs.Rules.{NextRule}
 use Rattle.filter_propagate.specs.Rules.{bytesOf, reached}
-use Rattle.filter_propagate.specs.Strikes.{isOpen}
-use Rattle.filter_propagate.specs.Known.{Known}
+use Rattle.filter_support.specs.Strikes.{isOpen}
+use Rattle.filter_support.specs.Known.{Known}
 use Rattle.filter_propagate.specs.Step.{remaining}
 use Rattle.filter_propagate.specs.Steps.{Steps, start, more}
 use Rattle.tables.specs.Laws.Count.{count-le}
@@ -53,7 +53,7 @@ add-total c =
     omega (arith, count-le isOpen (now (a .args .slots)), a .pre .0 .slots-size)
 
 next-rule-requires-2 : tie.Need-next-rule-requires-2 Inv-loop μ-loop
-next-rule-requires-2 c κs = search needs
+next-rule-requires-2 c κs = search
 
 loop-less : tie.Need-loop-less Inv-loop μ-loop
 loop-less c = step-less _ _ _ _ _ (c .before .before .before .before .before .before .step .ensures .0) (flags-length 64 _)
@@ -67,10 +67,10 @@ loop-again c =
     (step-sizes _ (s .0) _ (i .0), c .next-rule2 .ensures, more (i .2) (s .0), omega (arith, i .3), s .1)
 
 same-length : tie.Need-same-length Inv-loop μ-loop
-same-length c = search needs
+same-length c = search
 
 same-length-2 : tie.Need-same-length-2 Inv-loop μ-loop
-same-length-2 c = search needs
+same-length-2 c = search
 
 returns : tie.Need-returns Inv-loop μ-loop
 returns c =

@@ -3,7 +3,7 @@
 use native.Mathlib.Omega.{arith}
 use Rattle.masks.specs.Laws.Columns.{sets-past}
 use Rattle.filter_propagate.specs.Laws.Step.{revision-from}
-use Rattle.filter_propagate.specs.Laws.Known.{known-some, known-still, struck-sets}
+use Rattle.filter_support.specs.Laws.Known.{known-some, known-still, struck-sets}
 use borrow.Author.Needs.{needs}
 use Rattle.filter_propagate.proofs.revise.Statement.{statement}
 use Rattle.filter_propagate.proofs.revise.Tie as tie
@@ -24,7 +24,7 @@ know-columns-requires : tie.Need-know-columns-requires
 know-columns-requires c κs = search needs
 
 column-sets-requires : tie.Need-column-sets-requires
-column-sets-requires c κs = search needs
+column-sets-requires c κs = search
 
 revise-columns-requires : tie.Need-revise-columns-requires
 revise-columns-requires c κs = (search needs, (search needs, sets-past (c .before .column-sets .ensures)))
@@ -41,10 +41,10 @@ strike-columns-requires c κs =
     (record { size = start .0 .slots-size; rule = omega arith; columns = omega arith }, known-some (known .joins) (known .masks))
 
 same-length : tie.Need-same-length
-same-length c = search needs
+same-length c = search
 
 same-length-2 : tie.Need-same-length-2
-same-length-2 c = search needs
+same-length-2 c = search
 
 returns : tie.Need-returns
 returns c =

@@ -2,7 +2,6 @@
 use mathlib.Core.Path.{refl}
 use Rattle.tables.specs.Laws.Flags.{flag-set}
 use Rattle.filter_propagate.specs.Laws.Step.{step-enqueued}
-use borrow.Author.Needs.{needs}
 use Rattle.filter_propagate.proofs.step.Statement.{statement}
 use Rattle.filter_propagate.proofs.step.Tie as tie
 
@@ -12,13 +11,13 @@ revise-requires c κs =
     (start .0, (start .1 .1 .0, start .1 .1 .1 .1))
 
 enqueue-requires : tie.Need-enqueue-requires
-enqueue-requires c κs = search needs
+enqueue-requires c κs = search
 
 same-length : tie.Need-same-length
-same-length c = search needs
+same-length c = search
 
 same-length-2 : tie.Need-same-length-2
-same-length-2 c = search needs
+same-length-2 c = search
 
 returns : tie.Need-returns
 returns c =

@@ -7,15 +7,15 @@ use native.Mathlib.Omega.{arith}
 use lib.ListN.{getD}
 use Rattle.tables.specs.Lost.{OnlyLost, lost}
 use Rattle.filter_propagate.specs.Rules.{RuleBytes, Progress}
-use Rattle.filter_propagate.specs.Rows.{Killed}
-use Rattle.filter_propagate.specs.Strikes.{isOpen, isStruck}
+use Rattle.filter_support.specs.Rows.{Killed}
+use Rattle.filter_support.specs.Strikes.{isOpen, isStruck}
 use Rattle.filter_propagate.specs.Step.{Revised, Stepped}
 use Rattle.filter_propagate.specs.Steps.{Steps, Propagated}
 use Rattle.layout.specs.Places.{columnsOf, rowsOf}
 use Rattle.layout.specs.Bounds.{Sizes}
 use Rattle.tables.specs.Laws.Lost.{only-none, only-more, lost-count}
 use Rattle.tables.specs.Laws.Facts.{eq-or-ne, lt-or-le}
-use Rattle.filter_propagate.specs.Laws.Strikes.{open-not-struck, strikes-only}
+use Rattle.filter_support.specs.Laws.Strikes.{open-not-struck, strikes-only}
 use Rattle.filter_propagate.specs.Laws.Steps.{along}
 use Rattle.filter_propagate.specs.Kept.{Kill}
 

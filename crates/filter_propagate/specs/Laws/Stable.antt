@@ -8,12 +8,12 @@ use native.Mathlib.Omega.{arith}
 use lib.ListN.{getD}
 use lib.Seq.{getD-set-other}
 use Rattle.filter_propagate.specs.Rules.{RuleBytes, Progress, Distinct}
-use Rattle.filter_propagate.specs.Rows.{Support}
+use Rattle.filter_support.specs.Rows.{Support}
 use Rattle.filter_propagate.specs.Step.{Revised, Stepped}
 use Rattle.layout.specs.Places.{columnsOf, rowsOf, callOf, slotOf, killerOf, rowCell}
 use Rattle.tables.specs.Laws.Facts.{true-false, eq-or-ne, lt-or-le, find-below, decide-both}
-use Rattle.filter_propagate.specs.Laws.Rows.{lived}
-use Rattle.filter_propagate.specs.Laws.Strikes.{was-open}
+use Rattle.filter_support.specs.Laws.Rows.{lived}
+use Rattle.filter_support.specs.Laws.Strikes.{was-open}
 use Rattle.filter_propagate.specs.Stable.{StableBytes, Calm}
 
 -- a rule stays stable where its killers, and the slots of its calls, are as they were

@@ -14,8 +14,8 @@ use Rattle.layout.specs.Places.{callOf, columnsOf, rowsOf}
 use Rattle.masks.specs.declared.columns.Columns.{Columns}
 use Rattle.masks.specs.Rules.{RulesOn, Enqueues}
 use Rattle.filter_propagate.specs.Rules.{RuleBytes, Progress, reached}
-use Rattle.filter_propagate.specs.Walk.{StruckSets, WalkedColumns}
-use Rattle.filter_propagate.specs.Strikes.{NotIn, StruckOn, ColumnsStruck}
+use Rattle.filter_support.specs.Walk.{StruckSets, WalkedColumns}
+use Rattle.filter_support.specs.Strikes.{NotIn, StruckOn, ColumnsStruck}
 use Rattle.filter_propagate.specs.Queue.{Enqueued, IsFlagged, onlyRule}
 use Rattle.filter_propagate.specs.Step.{Revision, Stepped, isPending, remaining}
 use Rattle.tables.specs.Laws.Count.{count-le, count-set}
@@ -23,8 +23,8 @@ use Rattle.tables.specs.Laws.Assign.{assign-keep, assign-same}
 use Rattle.tables.specs.Laws.Facts.{eq-or-ne}
 use Rattle.masks.specs.Laws.Rules.{enqueued}
 use Rattle.filter_propagate.specs.Laws.Queue.{only-cleared, none-cleared}
-use Rattle.filter_propagate.specs.Laws.Walk.{walk-kills, unsupported, not-found}
-use Rattle.filter_propagate.specs.Laws.Strikes.{strikes-same, strikes-zero}
+use Rattle.filter_support.specs.Laws.Walk.{walk-kills, unsupported, not-found}
+use Rattle.filter_support.specs.Laws.Strikes.{strikes-same, strikes-zero}
 
 -- the struck slots, the walk over the rows by them, then the strikes by what it found: the slots that are not found are those without a support
 pub revision-from : (R : RuleBytes) (p : ℕ) {r calls n m : ℕ} (killers killed slots struck : List ℕ) (dead found : Columns) → n ≡ columnsOf (R .arity) p → m ≡ rowsOf (R .lengths) p

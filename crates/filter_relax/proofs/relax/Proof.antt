@@ -6,22 +6,22 @@ use Rattle.filter_relax.proofs.relax.Statement.{statement}
 use Rattle.filter_relax.proofs.relax.Tie as tie
 
 close-requires : tie.Need-close-requires
-close-requires c κs = search needs
+close-requires c κs = search
 
 reopen-calls-requires : tie.Need-reopen-calls-requires
-reopen-calls-requires c κs = search needs
+reopen-calls-requires c κs = search
 
 rules-on-requires : tie.Need-rules-on-requires
 rules-on-requires c κs = search needs
 
 revive-rules-requires : tie.Need-revive-rules-requires
-revive-rules-requires c κs = search needs
+revive-rules-requires c κs = search
 
 same-length : tie.Need-same-length
-same-length c = search needs
+same-length c = search
 
 same-length-2 : tie.Need-same-length-2
-same-length-2 c = search needs
+same-length-2 c = search
 
 returns : tie.Need-returns
 returns c =

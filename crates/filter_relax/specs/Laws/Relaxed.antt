@@ -5,11 +5,10 @@ use mathlib.Core.Logic.{_⊎_, inl, inr}
 use mathlib.Core.Bool.{Bool, false}
 use Prim.Native.Nat.{ℕ, _+_, _*_, _/_, _<_}
 use native.Mathlib.Omega.{arith}
-use lib.ListN.{length, getD}
+use lib.ListN.{getD}
 use Rattle.tables.specs.Masks.{Has, flagsOf, allFlags}
 use Rattle.tables.specs.Laws.Facts.{true-false}
-use Rattle.tables.specs.Laws.Flags.{flags-length, flag-set, flag-has, flag-below}
-use Rattle.tables.specs.Laws.Masks.{has-some}
+use Rattle.tables.specs.Laws.Flags.{flags-length, flag-set, flag-has}
 use Rattle.masks.specs.Rules.{OnCalls, RulesOn, RulesOnAny}
 use Rattle.masks.specs.Laws.Rules.{enqueued-first}
 use Rattle.filter_propagate.specs.Rules.{RuleBytes}
@@ -20,14 +19,12 @@ use Rattle.layout.specs.Bounds.{Sizes}
 use Rattle.layout.specs.Places.{columnsOf, slotOf, rowCell, callOf}
 use Rattle.filter_relax.specs.Reach.{seed, joins}
 use Rattle.filter_relax.specs.Touched.{Touched, CallsVisited}
-use Rattle.filter_relax.specs.Spread.{Blank, Adds}
+use Rattle.filter_relax.specs.Seed.{Seeding}
 use Rattle.filter_relax.specs.Closure.{traversal, Closed}
 use Rattle.filter_relax.specs.Reopen.{Reopened}
 use Rattle.filter_relax.specs.Revive.{Freed, RuleRevived, Blocks}
 use Rattle.filter_relax.specs.Relaxed.{OnVisited, Relaxed}
 use Rattle.filter_relax.specs.Laws.Reach.{reach-join}
-use Rattle.filter_relax.specs.Laws.Spread.{adds-size}
-use Rattle.filter_relax.specs.Laws.Seed.{seed-visited, seed-calls}
 
 -- a rule with a row whose killer's slot is visited has a column on its call
 pub freed-on : (R : RuleBytes) (visited : List Bool) (q w x : ℕ) → Freed R visited q w x → OnVisited R visited q
@@ -48,13 +45,13 @@ module _ (R : RuleBytes) {visited : List Bool} (calls : ℕ) (all : CallsVisited
   mask-on x = let c = callOf (R .scope) q (x .0) in (x .0, x .1, all .only c (flag-set 32 calls c (omega arith) (x .2)))
 
 -- the closure, then the reopening, the rules on reopened calls, and the reviving
-pub relaxed : (R : RuleBytes) {b t calls rules : ℕ} (killers slots : List ℕ) {revived reopened on : List ℕ} {old visited idle : List Bool}
+pub relaxed : (R : RuleBytes) {t calls rules : ℕ} (killers slots : List ℕ) {revived reopened on : List ℕ} {old visited idle : List Bool}
     → Closed R killers slots old (traversal visited (flagsOf 32 calls) idle)
-    → Reopened b t visited slots reopened
+    → Reopened t visited slots reopened
     → RulesOn (R .arity) (R .scope) on
     → RulesOnAny on calls rules
     → Blocks (RuleRevived R visited (flagsOf 64 rules)) 64 killers revived
-    → Relaxed R (IsFlagged old) b t killers revived slots reopened visited (flagsOf 64 rules)
+    → Relaxed R (IsFlagged old) t killers revived slots reopened visited (flagsOf 64 rules)
 relaxed R {calls = calls} {rules = rules} killers slots {visited = visited} c o table any v =
     let queue = enqueued-first table any in
     let on : (q : ℕ) → q < 64 → OnVisited R visited q → IsFlagged (flagsOf 64 rules) q =
@@ -80,15 +77,15 @@ pub touched-struck : (R : RuleBytes) (killers slots : List ℕ) {Seed : ℕ → 
 touched-struck R killers slots (seed s) = inl s
 touched-struck R killers slots (joins t p) = let l = p .number in let e = p .by .by .held .2 .cause in inr (omega arith)
 
-module _ {R : RuleBytes} {b t : ℕ} {killers revived slots reopened : List ℕ} {visited pending : List Bool} where
-  -- the seed in other words
-  pub relaxed-same : {Seed Seed′ : ℕ → Type 0} → ((j : ℕ) → Seed j → Seed′ j) → ((j : ℕ) → Seed′ j → Seed j) → Relaxed R Seed b t killers revived slots reopened visited pending
-      → Relaxed R Seed′ b t killers revived slots reopened visited pending
-  relaxed-same forth back x =
+module _ {R : RuleBytes} {t : ℕ} {killers revived slots reopened : List ℕ} {visited pending : List Bool} where
+  -- from the visited of a seed it is one from the seed
+  pub relaxed-from : {Seed : ℕ → Type 0} {seeded : List ℕ} {calls : ℕ} → Seeding Seed seeded calls
+      → Relaxed R (IsFlagged (allFlags 32 seeded)) t killers revived slots reopened visited pending → Relaxed R Seed t killers revived slots reopened visited pending
+  relaxed-from s x =
       record {
         visited-size = x .visited-size;
-        touched = λ j o. reach-join (λ i k p. p) (λ k s. seed (forth k s)) (x .touched j o);
-        all-touched = λ no-own j u. x .all-touched no-own j (reach-join (λ i k p. p) (λ k s. seed (back k s)) u);
+        touched = λ j o. reach-join (λ i k p. p) (λ k v. seed (s .only k v)) (x .touched j o);
+        all-touched = λ no-own j u. x .all-touched no-own j (reach-join (λ i k p. p) (λ k v. seed (s .has k v)) u);
         slots-size = x .slots-size;
         slot-opened = x .slot-opened;
         slot-kept = x .slot-kept;
@@ -102,7 +99,7 @@ module _ {R : RuleBytes} {b t : ℕ} {killers revived slots reopened : List ℕ}
       }
 
   -- A RULE THAT IS NOT PENDING is stable if it was
-  module _ {Seed : ℕ → Type 0} (x : Relaxed R Seed b t killers revived slots reopened visited pending) where
+  module _ {Seed : ℕ → Type 0} (x : Relaxed R Seed t killers revived slots reopened visited pending) where
     pub stays-stable : (q : ℕ) → q < 64 → getD pending q false ≡ false → StableBytes R killers slots q → StableBytes R revived reopened q
     stays-stable q lq off =
         stable-keep R q killers revived slots reopened
@@ -110,13 +107,6 @@ module _ {R : RuleBytes} {b t : ℕ} {killers revived slots reopened : List ℕ}
         (λ w lw. x .row-kept q w lq (omega arith) (λ f. true-false (x .enqueued q lq (freed-on R visited q w _ f)) off))
 
 -- a relaxation leaves the buffers' lengths as they were
-pub relaxed-sizes : {b t : ℕ} {R : RuleBytes} {Seed : ℕ → Type 0} {killers revived slots opened : List ℕ} {visited pending : List Bool}
-    → Relaxed R Seed b t killers revived slots opened visited pending → Sizes (R .rows) killers slots → Sizes (R .rows) revived opened
+pub relaxed-sizes : {t : ℕ} {R : RuleBytes} {Seed : ℕ → Type 0} {killers revived slots opened : List ℕ} {visited pending : List Bool}
+    → Relaxed R Seed t killers revived slots opened visited pending → Sizes (R .rows) killers slots → Sizes (R .rows) revived opened
 relaxed-sizes x s = record { rows-size = s .rows-size; killers-size = x .killers-size ∙ s .killers-size; slots-size = x .slots-size ∙ s .slots-size }
-
--- WHERE THE MASK OF CALLS IS 0 nothing was set
-pub seed-empty : {Q : ℕ → Type 0} {none seeded : List ℕ} {calls : ℕ} → length none ≡ 32 → Blank (allFlags 32 none) → Adds Q none seeded 0 calls → calls ≡ 0 → (j : ℕ) → Q j → ⊥
-seed-empty {calls = calls} size blank a z j q =
-    let l = adds-size a ∙ size in
-    let f = seed-calls l blank a .covers j (seed-visited l blank a j q) in
-    has-some calls (j / 32) (flag-has 32 calls (j / 32) (flag-below 32 calls (j / 32) f) f) z

@@ -24,25 +24,25 @@ use Rattle.filter_relax.specs.Spread.{isVisited, CallMask}
 use Rattle.filter_relax.specs.Reopen.{AnyByte, Reopened}
 use Rattle.layout.specs.Places.{slotPlace}
 
--- THE SLOTS OF A MASK, from the lowest on: those that are not left hold b
-pub record SlotsReopened (b c mask left : ℕ) (old new : List ℕ) : Type 0 where
+-- THE SLOTS OF A MASK, from the lowest on: those that are not left are open
+pub record SlotsReopened (c mask left : ℕ) (old new : List ℕ) : Type 0 where
   pub lowest : Left 32 mask left
-  pub slots : Assigned 0 b AnyByte (Of (λ s j. j ≡ slotPlace c s) (Removed mask left)) old new
+  pub slots : Assigned 0 255 AnyByte (Of (λ s j. j ≡ slotPlace c s) (Removed mask left)) old new
 
-pub slots-none : (b c mask : ℕ) (l : List ℕ) → mask < 2 ^ 32 → SlotsReopened b c mask mask l l
-slots-none b c mask l h = record { lowest = left-all 32 mask h; slots = assign-left 0 b AnyByte _ mask l }
+pub slots-none : (c mask : ℕ) (l : List ℕ) → mask < 2 ^ 32 → SlotsReopened c mask mask l l
+slots-none c mask l h = record { lowest = left-all 32 mask h; slots = assign-left 0 255 AnyByte _ mask l }
 
-pub slots-more : {b c mask left : ℕ} {old new : List ℕ} → (left ≡ 0 → ⊥) → slotPlace c (trailingZeros 32 left) < length new → SlotsReopened b c mask left old new
-    → SlotsReopened b c mask (bitAnd left (left - 1)) old (set new (slotPlace c (trailingZeros 32 left)) b)
-slots-more {b} {c} {new = new} some h x =
+pub slots-more : {c mask left : ℕ} {old new : List ℕ} → (left ≡ 0 → ⊥) → slotPlace c (trailingZeros 32 left) < length new → SlotsReopened c mask left old new
+    → SlotsReopened c mask (bitAnd left (left - 1)) old (set new (slotPlace c (trailingZeros 32 left)) 255)
+slots-more {c} {new = new} some h x =
     record {
       lowest = left-more some (x .lowest);
-      slots = assign-lowest 0 b AnyByte _ some (x .lowest) (x .slots) (assign-set 0 b AnyByte _ _ new h tt refl (λ j e. e));
+      slots = assign-lowest 0 255 AnyByte _ some (x .lowest) (x .slots) (assign-set 0 255 AnyByte _ _ new h tt refl (λ j e. e));
     }
 
-pub slots-done : {b c mask left : ℕ} {old new : List ℕ} → mask < 2 ^ 32 → left ≡ 0 → SlotsReopened b c mask left old new → Assigned 0 b AnyByte (CallMask c mask) old new
-slots-done {b} {mask = mask} h z x =
-    assign-same 0 b AnyByte _ _ (λ j y. (y .0, y .3, y .2)) (λ j y. (y .0, has-below 32 mask (y .0) h (y .1), y .2, y .1)) (assign-taken 0 b AnyByte _ z (x .slots))
+pub slots-done : {c mask left : ℕ} {old new : List ℕ} → mask < 2 ^ 32 → left ≡ 0 → SlotsReopened c mask left old new → Assigned 0 255 AnyByte (CallMask c mask) old new
+slots-done {mask = mask} h z x =
+    assign-same 0 255 AnyByte _ _ (λ j y. (y .0, y .3, y .2)) (λ j y. (y .0, has-below 32 mask (y .0) h (y .1), y .2, y .1)) (assign-taken 0 255 AnyByte _ z (x .slots))
 
 -- THE NUMBER OF VISITED SLOTS of the calls whose flag is set
 pub visitedOf : List Bool → List ℕ → ℕ
@@ -93,16 +93,16 @@ visited-all [] (m ∷ ms) clear = omega (arith, count-append isVisited (flagsOf 
 visited-all (true ∷ fs) (m ∷ ms) clear = omega (arith, count-append isVisited (flagsOf 32 m) (allFlags 32 ms), visited-all fs ms (λ c e. clear (suc c) e))
 visited-all (false ∷ fs) (m ∷ ms) clear = omega (arith, count-append isVisited (flagsOf 32 m) (allFlags 32 ms), clear 0 refl, visited-all fs ms (λ c e. clear (suc c) e))
 
--- THE CALLS OF A MASK, from the lowest on: the visited slots of those that are not left hold b; total is their number
-pub record CallsReopened (b total calls left : ℕ) (visited old new : List ℕ) : Type 0 where
+-- THE CALLS OF A MASK, from the lowest on: the visited slots of those that are not left are open; total is their number
+pub record CallsReopened (total calls left : ℕ) (visited old new : List ℕ) : Type 0 where
   pub lowest : Left 32 calls left
-  pub slots : Assigned 0 b AnyByte (Of (λ c. CallMask c (getD visited c 0)) (Removed calls left)) old new
+  pub slots : Assigned 0 255 AnyByte (Of (λ c. CallMask c (getD visited c 0)) (Removed calls left)) old new
   pub number : total + visitedOf (flagsOf 32 left) visited ≡ visitedOf (flagsOf 32 calls) visited
 
-pub calls-none : (b calls : ℕ) (visited l : List ℕ) → calls < 2 ^ 32 → CallsReopened b 0 calls calls visited l l
-calls-none b calls visited l h = record { lowest = left-all 32 calls h; slots = assign-left 0 b AnyByte _ calls l; number = omega arith }
+pub calls-none : (calls : ℕ) (visited l : List ℕ) → calls < 2 ^ 32 → CallsReopened 0 calls calls visited l l
+calls-none calls visited l h = record { lowest = left-all 32 calls h; slots = assign-left 0 255 AnyByte _ calls l; number = omega arith }
 
-module _ {b total calls left : ℕ} {visited old mid : List ℕ} (x : CallsReopened b total calls left visited old mid) where
+module _ {total calls left : ℕ} {visited old mid : List ℕ} (x : CallsReopened total calls left visited old mid) where
   -- there are never more than slots
   pub total-few : total ≤ 1024
   total-few = omega (arith, x .number, visited-le (flagsOf 32 calls) visited, flags-length 32 calls)
@@ -116,12 +116,12 @@ module _ {b total calls left : ℕ} {visited old mid : List ℕ} (x : CallsReope
         let e = flags-set 32 left (bitAnd left (left - 1)) t false (l .place) (ne-eqb _ 1 (λ (h : bitOf (bitAnd left (left - 1)) t ≡ 1). omega (arith, l .gone))) (λ q lq ne. l .others q ne) in
         rw e (visited-clear (flagsOf 32 left) visited t (flag-set 32 left t (l .place) (l .here)))
 
-    pub calls-more : {r : ℕ} {new : List ℕ} → Assigned 0 b AnyByte (CallMask (trailingZeros 32 left) (getD visited (trailingZeros 32 left) 0)) mid new
-        → r ≡ count isVisited (flagsOf 32 (getD visited (trailingZeros 32 left) 0)) → CallsReopened b (total + r) calls (bitAnd left (left - 1)) visited old new
+    pub calls-more : {r : ℕ} {new : List ℕ} → Assigned 0 255 AnyByte (CallMask (trailingZeros 32 left) (getD visited (trailingZeros 32 left) 0)) mid new
+        → r ≡ count isVisited (flagsOf 32 (getD visited (trailingZeros 32 left) 0)) → CallsReopened (total + r) calls (bitAnd left (left - 1)) visited old new
     calls-more y e =
         record {
           lowest = left-more some (x .lowest);
-          slots = assign-lowest 0 b AnyByte _ some (x .lowest) (x .slots) y;
+          slots = assign-lowest 0 255 AnyByte _ some (x .lowest) (x .slots) y;
           number = omega (arith, visited-lowest, x .number);
         }
 
@@ -137,8 +137,8 @@ module _ (calls : ℕ) (visited : List ℕ) (covers : Covers (flagsOf 32 calls) 
           let at : (32 * c + s) / 32 ≡ c = omega arith in
           rw at at (covers (32 * c + s) (all-set 32 visited c s lt (flag-has 32 (getD visited c 0) s lt o)))
 
-  pub calls-done : {b total left : ℕ} {old new : List ℕ} → left ≡ 0 → CallsReopened b total calls left visited old new → Reopened b total (allFlags 32 visited) old new
-  calls-done {b} {total} {left} {old} {new} z x =
+  pub calls-done : {total left : ℕ} {old new : List ℕ} → left ≡ 0 → CallsReopened total calls left visited old new → Reopened total (allFlags 32 visited) old new
+  calls-done {total} {left} {old} {new} z x =
       record {
         size = m .len;
         opened = opened;
@@ -148,10 +148,10 @@ module _ (calls : ℕ) (visited : List ℕ) (covers : Covers (flagsOf 32 calls) 
             (arith, x .number, visited-all (flagsOf 32 calls) visited clear-none, ap (λ (l : ℕ). visitedOf (flagsOf 32 l) visited) z, visited-none 32 visited);
       }
     where
-      m : Assigned 0 b AnyByte (Of (λ c. CallMask c (getD visited c 0)) (Has calls)) old new
-      m = assign-taken 0 b AnyByte _ z (x .slots)
+      m : Assigned 0 255 AnyByte (Of (λ c. CallMask c (getD visited c 0)) (Has calls)) old new
+      m = assign-taken 0 255 AnyByte _ z (x .slots)
 
-      opened : (j : ℕ) → IsFlagged (allFlags 32 visited) j → getD new j 0 ≡ b
+      opened : (j : ℕ) → IsFlagged (allFlags 32 visited) j → getD new j 0 ≡ 255
       opened j o =
           let p = all-place 32 visited j o in
           let ls = p .3 in

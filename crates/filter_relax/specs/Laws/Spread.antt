@@ -22,7 +22,7 @@ use Rattle.tables.specs.Laws.Masks.{bit-zero, bit-or, power-same, shl-one, powe
 use Rattle.filter_propagate.specs.Queue.{IsFlagged}
 use Rattle.layout.specs.Places.{slotPlace}
 use Rattle.layout.specs.Sizes.{slotsLength}
-use Rattle.filter_relax.specs.Spread.{isVisited, Blank, CallMask, HasSlot, Adds, NewOn, Spread}
+use Rattle.filter_relax.specs.Spread.{isVisited, CallMask, HasSlot, Adds, NewOn, Spread}
 
 -- the flag of a slot that its call's mask does not have is clear
 pub not-visited : (visited : List ℕ) → length visited ≡ 32 → (c s : ℕ) → c < 32 → s < 32 → (Has (getD visited c 0) s → ⊥) → getD (allFlags 32 visited) (slotPlace c s) false ≡ false
@@ -45,8 +45,8 @@ pub place-of : (j : ℕ) → slotPlace (j / 32) (j % 32) ≡ j
 place-of j = omega arith
 
 -- empty masks have no flag
-pub blank-replicate : Blank (allFlags 32 (replicate 32 0))
-blank-replicate j o =
+pub none-visited : (j : ℕ) → IsFlagged (allFlags 32 (replicate 32 0)) j → ⊥
+none-visited j o =
     let size : length (replicate {A = ℕ} 32 0) ≡ 32 = length-replicate {A = ℕ} 32 0 in
     let l = flag-in (allFlags 32 (replicate 32 0)) j o in
     let lc : j / 32 < 32 = omega (arith, visited-length (replicate 32 0) size) in

@@ -3,13 +3,13 @@ use mathlib.Core.Path.{refl}
 use Prim.Native.Nat.{_*_, _-_}
 use native.Mathlib.Omega.{arith}
 use borrow.Author.Needs.{needs}
-use Rattle.filter_retract.specs.Done.{Emptied}
+use Rattle.tables.specs.Sweep.{Becomes}
 use Rattle.filter_retract.proofs.clear_killers.Statement.{statement}
 use Rattle.filter_retract.proofs.clear_killers.Tie as tie
 use Rattle.filter_post.specs.Laws.Write.{Sweeping, sweep-begins, sweep-stores, sweep-ends}
 
 abbrev Inv-loop : tie.InvT-loop
-Inv-loop killers₀ p w₀ killers w = Sweeping Emptied (64 * p) 64 w killers₀ killers
+Inv-loop killers₀ p w₀ killers w = Sweeping (Becomes 255) (64 * p) 64 w killers₀ killers
 
 abbrev μ-loop : tie.MeasureT-loop
 μ-loop killers₀ p w₀ killers w = 64 - w
@@ -36,7 +36,7 @@ loop-again : tie.Need-loop-again Inv-loop μ-loop
 loop-again c = sweep-stores (c .before .loop .inv) (omega arith) (omega arith) refl
 
 same-length : tie.Need-same-length Inv-loop μ-loop
-same-length c = search needs
+same-length c = search
 
 returns : tie.Need-returns Inv-loop μ-loop
 returns c = sweep-ends (c .before .loop .inv) (omega arith)

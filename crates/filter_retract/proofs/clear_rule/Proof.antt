@@ -7,16 +7,16 @@ empty-requires : tie.Need-empty-requires
 empty-requires c κs = search needs
 
 write-rule-requires : tie.Need-write-rule-requires
-write-rule-requires c κs = search needs
+write-rule-requires c κs = search
 
 clear-killers-requires : tie.Need-clear-killers-requires
-clear-killers-requires c κs = search needs
+clear-killers-requires c κs = search
 
 same-length : tie.Need-same-length
-same-length c = search needs
+same-length c = search
 
 same-length-2 : tie.Need-same-length-2
-same-length-2 c = search needs
+same-length-2 c = search
 
 returns : tie.Need-returns
 returns c =

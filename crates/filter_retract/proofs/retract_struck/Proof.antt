@@ -22,7 +22,7 @@ difference-requires : tie.Need-difference-requires
 difference-requires c κs = search needs
 
 same-length : tie.Need-same-length
-same-length c = search needs
+same-length c = search
 
 same-length-2 : tie.Need-same-length-2
 same-length-2 c = search needs

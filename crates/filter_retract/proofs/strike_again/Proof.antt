@@ -5,13 +5,13 @@ use Rattle.filter_retract.proofs.strike_again.Statement.{statement}
 use Rattle.filter_retract.proofs.strike_again.Tie as tie
 
 clear-rule-requires : tie.Need-clear-rule-requires
-clear-rule-requires c κs = search needs
+clear-rule-requires c κs = search
 
 drop-rule-requires : tie.Need-drop-rule-requires
-drop-rule-requires c κs = search needs
+drop-rule-requires c κs = search
 
 without-requires : tie.Need-without-requires
-without-requires c κs = search needs
+without-requires c κs = search
 
 propagate-requires : tie.Need-propagate-requires
 propagate-requires c κs =
@@ -20,13 +20,13 @@ propagate-requires c κs =
     (cleared-sizes w (s .0), cleared-rules w (s .1 .0 .number) (s .1 .1) (c .before .before .before .before .before .before .before .before .drop-rule .ensures))
 
 same-length : tie.Need-same-length
-same-length c = search needs
+same-length c = search
 
 same-length-2 : tie.Need-same-length-2
 same-length-2 c = search needs
 
 same-length-3 : tie.Need-same-length-3
-same-length-3 c = search needs
+same-length-3 c = search
 
 returns : tie.Need-returns
 returns c = struck-again (c .before .before .before .before .before .before .before .before .before .before .before .before .before .before .before .before .before .before .before .clear-rule .ensures) (c .before .before .before .before .before .before .before .before .before .before .before .before .before .before .before .before .before .before .before .before .before .before .before .before .before .before .before .before .pre .1 .0 .number) (c .before .before .before .before .before .before .before .before .before .before .before .before .without .ensures) (c .before .before .before .before .propagate .ensures)

@@ -3,7 +3,7 @@ use mathlib.Core.Path.{_≡_, refl, _∙_}
 use mathlib.Core.List.{List}
 use Prim.Native.Nat.{ℕ, _-_, _<_}
 use mathlib.Core.Bool.{Bool}
-use lib.ListN.{length, replicate, length-replicate}
+use lib.ListN.{replicate}
 use Rattle.tables.specs.Masks.{flagsOf, allFlags}
 use Rattle.masks.specs.Rules.{RulesOn, RuleDropped, Without}
 use Rattle.filter_propagate.specs.Rules.{RuleBytes, reached}
@@ -11,28 +11,25 @@ use Rattle.filter_propagate.specs.Queue.{IsFlagged}
 use Rattle.filter_propagate.specs.Steps.{Propagated}
 use Rattle.filter_relax.specs.Touched.{Seeded}
 use Rattle.filter_relax.specs.Spread.{Adds}
+use Rattle.filter_relax.specs.Seed.{Seeding}
 use Rattle.filter_relax.specs.Relaxed.{Relaxed}
 use Rattle.layout.specs.Bounds.{Sizes}
 use Rattle.layout.specs.Places.{columnsOf}
 use Rattle.masks.specs.Laws.Rules.{flags-without, dropped-rules}
-use Rattle.filter_relax.specs.Laws.Spread.{blank-replicate, adds-size}
-use Rattle.filter_relax.specs.Laws.Seed.{seed-visited, seed-only, seed-calls}
-use Rattle.filter_relax.specs.Laws.Relaxed.{relaxed-same, seed-empty}
-use Rattle.filter_retract.specs.Done.{RuleCleared, Seeding, StruckAgain, Quiet, Reworked}
+use Rattle.filter_relax.specs.Laws.Seed.{seeding, seed-empty}
+use Rattle.filter_relax.specs.Laws.Relaxed.{relaxed-from}
+use Rattle.filter_retract.specs.Done.{RuleCleared, CausedBy, StruckAgain, Quiet, Reworked}
 
 -- visited among none, the slots whose cause is p are the seed of its retraction
-module _ {p n calls : ℕ} {R : RuleBytes} {slots visited : List ℕ} (e : n ≡ columnsOf (R .arity) p) (adds : Adds (Seeded slots (R .scope) p n) (replicate 32 0) visited 0 calls) where
-  pub seeding : Seeding p R slots visited calls
-  seeding =
-      let a = rw e at adds in
-      let l : length visited ≡ 32 = adds-size a ∙ length-replicate {A = ℕ} 32 0 in
-      record { size = l; has = seed-visited l blank-replicate a; only = seed-only l blank-replicate a; calls-visited = seed-calls l blank-replicate a }
+module _ {p n calls : ℕ} (R : RuleBytes) {slots visited : List ℕ} (e : n ≡ columnsOf (R .arity) p) (adds : Adds (Seeded slots (R .scope) p n) (replicate 32 0) visited 0 calls) where
+  pub caused-seeding : Seeding (CausedBy p R slots) visited calls
+  caused-seeding = seeding (rw e at adds)
 
   -- where no call has one there is none
   pub quiet : {R′ : RuleBytes} {killers killers′ : List ℕ} → calls ≡ 0 → RuleCleared p R R′ killers killers′ → Quiet p R R′ killers killers′ slots slots 0 0
   quiet z c =
       record {
-        none = seed-empty (length-replicate {A = ℕ} 32 0) blank-replicate (rw e at adds) z;
+        none = seed-empty caused-seeding z;
         cleared = c;
         slots-same = refl;
         none-reopened = refl;
@@ -58,7 +55,7 @@ module _ {p : ℕ} {R R′ : RuleBytes} {killers emptied : List ℕ} (c : RuleCl
 
 -- the reopening, the clearing and propagation
 pub reworked : {p reopened touched again calls : ℕ} {R R′ : RuleBytes} {killers killers′ slots slots′ seeded revived opened : List ℕ} {visited pending : List Bool}
-    → Seeding p R slots seeded calls → Relaxed R (IsFlagged (allFlags 32 seeded)) 255 touched killers revived slots opened visited pending
+    → Seeding (CausedBy p R slots) seeded calls → Relaxed R (IsFlagged (allFlags 32 seeded)) touched killers revived slots opened visited pending
     → StruckAgain p again pending R R′ revived killers′ opened slots′ → reopened ≡ touched - again → Reworked p R R′ killers killers′ slots slots′ reopened touched
 reworked {again = again} {revived = revived} {opened} {visited} {pending} s x a e =
     record {
@@ -66,7 +63,7 @@ reworked {again = again} {revived = revived} {opened} {visited} {pending} s x a 
       opened = opened;
       visited = visited;
       pending = pending;
-      relaxed = relaxed-same (s .only) (s .has) x;
+      relaxed = relaxed-from s x;
       emptied = a .emptied;
       cleared = a .cleared;
       again = again;

@@ -25,11 +25,11 @@ use Rattle.model.specs.Laws.Fresh.{empty-held}
 use Rattle.model.specs.Laws.Touched.{smallest-none}
 use Rattle.model.specs.Laws.Change.{on-range, byte-on, retracted-from, retract-weaker, retract-seeds}
 use Rattle.filter_propagate.specs.Rules.{RuleBytes, reached}
-use Rattle.filter_propagate.specs.Strikes.{isOpen, isStruck}
+use Rattle.filter_support.specs.Strikes.{isOpen, isStruck}
 use Rattle.filter_propagate.specs.Stable.{StableBytes}
 use Rattle.filter_propagate.specs.Queue.{IsFlagged}
 use Rattle.filter_propagate.specs.Laws.Stable.{stable-keep}
-use Rattle.filter_propagate.specs.Laws.Strikes.{open-not-struck}
+use Rattle.filter_support.specs.Laws.Strikes.{open-not-struck}
 use Rattle.filter_propagate.specs.Laws.Kept.{steps-slots, propagated-lost}
 use Rattle.filter_relax.specs.Relaxed.{Relaxed}
 use Rattle.filter_relax.specs.Laws.Relaxed.{stays-stable}
@@ -174,7 +174,7 @@ module _ (B : Board) (shape : Shape B) (p : ℕ) (lp : p < 64) (heads : Heads) (
         };
       }
     where
-      x : Relaxed (bytesIn heads rows) (CausedBy p (bytesIn heads rows) slots) 255 touched killers (d .revived) slots (d .opened) (d .visited) (d .pending)
+      x : Relaxed (bytesIn heads rows) (CausedBy p (bytesIn heads rows) slots) touched killers (d .revived) slots (d .opened) (d .visited) (d .pending)
       x = d .relaxed
 
       struck : (j : ℕ) → CausedBy p (bytesIn heads rows) slots j → getD slots j 0 < 64

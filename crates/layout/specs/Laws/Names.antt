@@ -22,7 +22,7 @@ module _ (f : ℕ → ℕ) (at : ℕ) where
   written-size zero l = refl
   written-size (suc n) l = length-set (written f at n l) (at + n) (f n) ∙ written-size n l
 
-  written-in : (n : ℕ) (l : List ℕ) → at + n ≤ length l → (i : ℕ) → i < n → getD (written f at n l) (at + i) 0 ≡ f i
+  pub written-in : (n : ℕ) (l : List ℕ) → at + n ≤ length l → (i : ℕ) → i < n → getD (written f at n l) (at + i) 0 ≡ f i
   written-in zero l fits i h = absurd (omega arith)
   written-in (suc n) l fits i h = go (λ lt. written-in n l (omega arith) i lt) (eq-or-lt-of-le (le-of-suc-le-suc h))
     where
@@ -30,7 +30,7 @@ module _ (f : ℕ → ℕ) (at : ℕ) where
       go before (inl e) = rw e (getD-set-same (written f at n l) (at + n) (f n) 0 (omega (arith, written-size n l)))
       go before (inr lt) = getD-set-other (written f at n l) (at + n) (at + i) (f n) 0 (λ e. omega arith) ∙ before lt
 
-  written-out : (n : ℕ) (l : List ℕ) (j : ℕ) → (j < at) ⊎ (at + n ≤ j) → getD (written f at n l) j 0 ≡ getD l j 0
+  pub written-out : (n : ℕ) (l : List ℕ) (j : ℕ) → (j < at) ⊎ (at + n ≤ j) → getD (written f at n l) j 0 ≡ getD l j 0
   written-out zero l j apart = refl
   written-out (suc n) l j apart =
       getD-set-other (written f at n l) (at + n) j (f n) 0 (λ e. ⊎-elim (λ (h : j < at). omega arith) (λ (h : at + suc n ≤ j). omega arith) apart)

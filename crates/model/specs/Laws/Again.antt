@@ -1,10 +1,11 @@
--- THE MORNING'S BOARD AGAIN (SCOPE 6.20): after a mark, then any commands, refused ones and marks under the other name among them, but no new board and no mark under the
--- same name, a back leaves the board as it was at the mark, byte for byte, without a draft. Nothing is assumed but that each command meets the entry's contract.
-use mathlib.Core.Path.{_≡_, refl, sym, ap, _∙_}
+-- THE SAME BOARD AFTER A BACK (SCOPE 6.20): after a mark, then any commands, refused ones of every kind and marks under the other name among them, but no new board and no
+-- mark under the same name that is accepted, a back leaves the board as it was at the mark, byte for byte, without a draft. Nothing is assumed but that each command
+-- meets the entry's contract.
+use mathlib.Core.Path.{_≡_, refl, sym, ap, subst, _∙_}
 use mathlib.Core.Bool.{Bool}
 use mathlib.Core.List.{List, _++_}
 use mathlib.Core.Logic.{_⊎_, inl, inr}
-use Prim.Native.Nat.{ℕ, zero, suc, _<_}
+use Prim.Native.Nat.{ℕ, _<_}
 use native.Mathlib.Omega.{arith}
 use lib.ListN.{length}
 use lib.Dec.{ltb}
@@ -13,9 +14,12 @@ use Rattle.layout.specs.Bounds.{Sizes}
 use Rattle.layout.specs.Laws.Marks.{kept-rows, kept-killers, kept-slots}
 use Rattle.layout.specs.Laws.Names.{under-own, under-other}
 use Rattle.layout.specs.Marks.{markedRows, markedKillers, markedSlots}
-use Rattle.layout.specs.Memory.{State, MarkedState, Whole, lentWith}
+use Rattle.layout.specs.Memory.{State, MarkedState, Whole, stateOf, lentWith}
 use Rattle.layout.specs.Names.{Mark, markOf, headsUnder}
 use Rattle.layout.specs.Sizes.{CommandLent}
+use Rattle.layout.specs.Value.{emptyDraft}
+use Rattle.layout.specs.declared.value.Draft.{Draft}
+use Rattle.layout.specs.declared.value.Heads.{Heads}
 use Rattle.model.specs.declared.answer.Answer.{Answer}
 use Rattle.model.specs.declared.answer.Answer.the-variants as answer
 use Rattle.model.specs.declared.command.Command.{Command}
@@ -24,39 +28,31 @@ use Rattle.model.specs.declared.command.Read.{Read}
 use Rattle.model.specs.declared.command.Read.the-variants as found
 use Rattle.model.specs.Commands.{readAt}
 use Rattle.model.specs.Ledger.{Ledger, Member, lentConditions, formConditions, ownConditions, kindConditions, stepBy}
-use Rattle.model.specs.Lists.{Runs, done, then, Entered, After}
-use Rattle.model.specs.Marks.{MarksLeft, LeavesMarks, LeavesMarksOf, keptAs}
+use Rattle.model.specs.Lists.{Runs, done, then, wholeLending, Entered, After}
+use Rattle.model.specs.Marks.{MarksLeft, LeavesMarks, LeavesMarksOf, keptAs, broughtBack}
 use Rattle.model.specs.Promise.{numberOf, Promise}
 use Rattle.model.specs.Refusals.{firstOf}
-use Rattle.model.specs.Laws.Lists.{IsOf, is-lengths, bad-lengths-stand, own-promise, entered-keeps, runs-represent}
+use Rattle.model.specs.Laws.Lists.{IsOf, is-lengths, lengths-first, bad-lengths-stand, entered-keeps, runs-represent}
+use Rattle.model.specs.Laws.Members.{BadLengths, lengths-or-promise}
 use Rattle.model.specs.Laws.Marks.{stored-sizes, headed-sized, other-rows, other-killers, other-slots}
-use Rattle.model.specs.Laws.Refusals.{first-stands, none-holds, rest-passes}
-use Rattle.model.specs.Laws.Shapes.{lent-right}
+use Rattle.model.specs.Laws.Refusals.{none-holds, rest-passes}
 use Rattle.model.specs.Numbers as refused
 use Rattle.model.specs.Again.{Under, ApartKind, ApartRead, AllApart, withoutDraft}
 
--- a member has lengths that are refused, or meets the promise on what stands
-lengths-or-promise : {L : Ledger} {m : Member} {s s′ : Whole} → IsOf L s → (t : Entered m s s′)
-    → ((n : ℕ) × (firstOf (lentConditions (m .lent)) ≡ suc n)) ⊎ Promise s (m .bytes) (t .given) s′
-lengths-or-promise {L} {m} {s} {s′} is t = go (firstOf (lentConditions (m .lent))) refl
-  where
-    go : (n : ℕ) → firstOf (lentConditions (m .lent)) ≡ n → ((n : ℕ) × (firstOf (lentConditions (m .lent)) ≡ suc n)) ⊎ Promise s (m .bytes) (t .given) s′
-    go (suc n) bad = inl (n, bad)
-    go zero good =
-        let passes = none-holds (lentConditions (m .lent)) tt good in
-        let right : m .lent ≡ lentWith s = lent-right (m .lent) (passes refused.bufferLength) (passes refused.tableLength) ∙ sym (is-lengths L s is) in
-        inr (own-promise m s s′ t (t .lengths ∙ right))
-
--- one that is accepted does the second
+-- a command that is accepted meets the promise on what stands
 accepted-promise : {L : Ledger} {m : Member} {s s′ : Whole} → IsOf L s → (t : Entered m s s′) → numberOf (t .given) ≡ 0 → Promise s (m .bytes) (t .given) s′
-accepted-promise {L} {m} {s} {s′} is t accepted = go (lengths-or-promise is t)
+accepted-promise {L} {m} {s} {s′} is t accepted = go (lengths-or-promise wholeLending IsOf is-lengths L is t)
   where
-    go : ((n : ℕ) × (firstOf (lentConditions (m .lent)) ≡ suc n)) ⊎ Promise s (m .bytes) (t .given) s′ → Promise s (m .bytes) (t .given) s′
+    go : BadLengths (m .lent) ⊎ ((m .lent ≡ lentWith s) × Promise s (m .bytes) (t .given) s′) → Promise s (m .bytes) (t .given) s′
     go (inl bad) =
-        let form = formConditions (readAt (m .bytes) 0 .read) (ltb (readAt (m .bytes) 0 .next) (length (m .bytes))) in
-        let lent = ap (λ (l : CommandLent). firstOf (lentConditions l)) (t .lengths) ∙ bad .1 in
-        absurd (omega (arith, accepted, t .promise .memory .early (bad .0) (first-stands (lentConditions (lentWith (t .handed))) form (bad .0) lent)))
-    go (inr p) = p
+        let lent : BadLengths (lentWith (t .handed)) = (bad .0, ap (λ (l : CommandLent). firstOf (lentConditions l)) (t .lengths) ∙ bad .1) in
+        absurd (omega (arith, accepted, t .promise .memory .early (bad .0) (lengths-first (m .bytes) (lentWith (t .handed)) lent)))
+    go (inr met) = met .1
+
+-- states of equal parts, of any draft: the empty one written out takes long to rewrite under
+same-state : {h h′ : Heads} {rows rows′ killers killers′ slots slots′ : List ℕ} (d : Draft) → h ≡ h′ → rows ≡ rows′ → killers ≡ killers′ → slots ≡ slots′
+    → stateOf (record { heads = h; draft = d }) rows killers slots ≡ stateOf (record { heads = h′; draft = d }) rows′ killers′ slots′
+same-state d h r k s = cc
 
 -- ONE COMMAND that meets the promise on a ledger's whole
 module _ (L : Ledger) (s s′ : Whole) (bytes : List ℕ) (given : Answer) (is : IsOf L s) (p : Promise s bytes given s′) where
@@ -139,37 +135,37 @@ module _ (L : Ledger) (s s′ : Whole) (bytes : List ℕ) (given : Answer) (is :
     by-read (found.Refused k n) read apart z l = absurd l
     by-read found.End read apart z l = absurd l
 
-    left-under : ApartRead name (readAt bytes 0 .read) → Under name t (s′ .marked)
+    left-under : (numberOf given ≡ 0 → ApartRead name (readAt bytes 0 .read)) → Under name t (s′ .marked)
     left-under apart = go given refl
       where
         go : (a : Answer) → given ≡ a → Under name t (s′ .marked)
-        go (answer.Accepted r) e = let z = ap numberOf e in by-read (readAt bytes 0 .read) refl apart z (p .memory .marks z)
+        go (answer.Accepted r) e = let z = ap numberOf e in by-read (readAt bytes 0 .read) refl (apart z) z (p .memory .marks z)
         go (answer.Refused n) e = rw (p .memory .refused n e) u
 
     -- A BACK makes it the board
     back-again : readAt bytes 0 .read ≡ found.Command (kind.Back name) → numberOf given ≡ 0 → s′ .marked .state ≡ withoutDraft t
     back-again read accepted =
-        let left = rw read at (p .memory .marks accepted) in
-        ap (λ (x : MarkedState). x .state) left ∙ rw (u .heads, u .rows, u .killers, u .slots) refl
+        let left : s′ .marked ≡ broughtBack (s .marked) name = subst (λ (r : Read). LeavesMarksOf r (s .marked) (s′ .marked)) read (p .memory .marks accepted) in
+        ap (λ (x : MarkedState). x .state) left ∙ same-state emptyDraft (u .heads) (u .rows) (u .killers) (u .slots)
 
 -- ANY LIST APART FROM THE NAME leaves what lies there, and the whole the ledger's
-runs-under : (L : Ledger) {s s′ : Whole} {ms : List Member} (name : ℕ) (t : State) → IsOf L s → Under name t (s .marked) → Runs Whole Member Entered s ms s′ → AllApart name ms
-    → ((K : Ledger) × IsOf K s′) × Under name t (s′ .marked)
+runs-under : (L : Ledger) {s s′ : Whole} {ms : List Member} (name : ℕ) (t : State) → IsOf L s → Under name t (s .marked) → (ran : Runs Whole Member Entered s ms s′)
+    → AllApart name ran → ((K : Ledger) × IsOf K s′) × Under name t (s′ .marked)
 runs-under L name t is u done apart = ((L, is), u)
 runs-under L {s} name t is u (then {s′ = mid} {m = m} st rest) apart =
-    runs-under (stepBy L m) name t (entered-keeps L m s mid is st) (go (lengths-or-promise is st)) rest (apart .1)
+    runs-under (stepBy L m) name t (entered-keeps L m s mid is st) (go (lengths-or-promise wholeLending IsOf is-lengths L is st)) rest (apart .1)
   where
-    go : ((n : ℕ) × (firstOf (lentConditions (m .lent)) ≡ suc n)) ⊎ Promise s (m .bytes) (st .given) mid → Under name t (mid .marked)
-    go (inl bad) = rw (bad-lengths-stand m s mid st (bad .0) (bad .1)) u
-    go (inr p) = left-under L s mid (m .bytes) (st .given) is p name t u (apart .0)
+    go : BadLengths (m .lent) ⊎ ((m .lent ≡ lentWith s) × Promise s (m .bytes) (st .given) mid) → Under name t (mid .marked)
+    go (inl bad) = rw (bad-lengths-stand m s mid st bad) u
+    go (inr met) = left-under L s mid (m .bytes) (st .given) is (met .1) name t u (apart .0)
 
 -- THE THEOREM, after every list of commands
 module _ {first : List ℕ} (before : List Member) (s kept later back : Whole) (after : After first before s) (name : ℕ) (k b : Member)
     (marks : readAt (k .bytes) 0 .read ≡ found.Command (kind.Keep name)) (mark : Entered k s kept) (taken : numberOf (mark .given) ≡ 0)
-    (ms : List Member) (apart : AllApart name ms) (ran : Runs Whole Member Entered kept ms later)
+    (ms : List Member) (ran : Runs Whole Member Entered kept ms later) (apart : AllApart name ran)
     (brings : readAt (b .bytes) 0 .read ≡ found.Command (kind.Back name)) (bring : Entered b later back) (given-back : numberOf (bring .given) ≡ 0) where
-  pub morning-again : back .marked .state ≡ withoutDraft (s .marked .state)
-  morning-again =
+  pub back-restores : back .marked .state ≡ withoutDraft (s .marked .state)
+  back-restores =
       let is = runs-represent before s after in
       let p = accepted-promise is mark taken in
       let u = mark-under _ s kept (k .bytes) (mark .given) is p name marks taken in

@@ -4,7 +4,7 @@ use mathlib.Core.Bool.{Bool, true, false, cond}
 use Prim.Native.Nat.{ℕ, zero, suc, _+_, _*_, _/_, _%_, _^_, _<_, _≤_}
 use native.Mathlib.Nat.{pow-suc}
 use native.Mathlib.Omega.{arith}
-use lib.Dec.{eqb}
+use lib.Dec.{T, eqb}
 use Rattle.model.specs.Questions.{maskOf, bit?}
 
 -- masks of tests that agree
@@ -46,3 +46,13 @@ bit-past zero f zero h = refl
 bit-past zero f (suc t) h = bit-past zero f t (omega arith)
 bit-past (suc n) f zero h = absurd (omega arith)
 bit-past (suc n) f (suc t) h = higher-bit n f t ∙ bit-past n (λ i. f (suc i)) t (omega arith)
+
+-- A MASK WITHOUT A BIT is 0: so is its half, and it is not 1
+pub no-bits : (n m : ℕ) → m ≤ n → ((t : ℕ) → T (bit? m t) → ⊥) → m ≡ 0
+no-bits zero m le clear = omega arith
+no-bits (suc n) m le clear = go m clear (no-bits n (m / 2) (omega arith) (λ t. clear (suc t)))
+  where
+    go : (m : ℕ) → ((t : ℕ) → T (bit? m t) → ⊥) → m / 2 ≡ 0 → m ≡ 0
+    go zero clear half = refl
+    go (suc zero) clear half = absurd (clear 0 tt)
+    go (suc (suc m)) clear half = absurd (omega arith)

@@ -11,8 +11,10 @@ use native.Mathlib.Nat.{eq-or-lt-of-le, le-of-suc-le-suc}
 use lib.ListN.{length, getD, drop, length-drop, List·getD-eq-default}
 use lib.Seq.{getD-take, getD-drop, length-take-le}
 use lib.Dec.{T, eqb, ltb, leb, eqb→eq}
-use borrow.Author.Tests.{eqb-true, ltb-false, leb-false, lt-ltb, le-ltb, le-leb, eq-eqb, ne-eqb}
+use borrow.Author.Tests.{eqb-true, ltb-false, leb-false, lt-ltb, le-ltb, lt-leb, le-leb, eq-eqb, ne-eqb}
+use Rattle.model.specs.declared.answer.OpenSlots.{OpenSlots}
 use Rattle.model.specs.declared.answer.OpenSlots.the-variants as slots
+use Rattle.model.specs.declared.answer.SlotState.{SlotState}
 use Rattle.model.specs.declared.answer.SlotState.the-variants as state
 use Rattle.model.specs.declared.answer.RowState.the-variants as row
 use Rattle.model.specs.declared.answer.Support.{Support}
@@ -24,16 +26,17 @@ use Rattle.model.specs.Ledger.{Ledger, LedgerShape, noBoard?, notInForce
 use Rattle.model.specs.Report.{open?}
 use Rattle.model.specs.Promise.{valuesAt}
 use Rattle.model.specs.Representation.{ruleOr, ruleAt, noCalls?, Represents}
-use Rattle.model.specs.Questions.{callConditions, slotConditions, rowConditions, supportConditions, slotsHeld, callChecks, slotChecks, rowChecks, supportChecks, maskOf, slotsNumber, slotsValues, bit?, slotsBy, slotsAnswer, SlotsMeans, SlotsPromise, stateNumber, stateValues, stateBy, stateAnswer, StateMeans, StatePromise, rowNumber, rowValues, rowBy, rowAnswer, RowMeans, RowPromise, bytesBy, rowBytesAnswer, RowBytesPromise, supportNumber, supportValues, supports?, columnCancelled?, supportRow, foundRow, foundValue, supportBy, supportAnswer, SupportingRow, NoSupport, SupportMeans, SupportValueMeans, SupportPromise}
-use Rattle.model.specs.Laws.Tests.{T?, or-false, and→, →and, →T, T→, →some, →eqb, none-passes, count-same, count-none}
+use Rattle.model.specs.Questions.{callConditions, slotConditions, rowConditions, supportConditions, slotsHeld, callChecks, slotChecks, rowChecks, supportChecks, maskOf, slotsNumber, slotsValues, bit?, slotsBy, slotsAnswer, SlotsMeans, SlotsPromise, stateNumber, stateValues, stateBy, stateAnswer, StateMeans, StatePromise, rowNumber, rowValues, rowBy, rowAnswer, RowMeans, RowPromise, bytesBy, rowBytesAnswer, RowBytesPromise, supportNumber, supportValues, supports?, columnCancelled?, supportRow, foundRow, foundValue, supportBy, supportAnswer, SupportingRow, SupportMeans, SupportValueMeans, SupportPromise}
+use Rattle.model.specs.Laws.Tests.{T?, not→, or-false, and→, →and, →T, T→, →some, →eqb, none-passes, count-same, count-none}
 use Rattle.model.specs.Laws.Theory.{live-on, live-not, not-live, active-live, below-active, open-viable, struck-caused, row-records}
 use Rattle.model.specs.Laws.Refusals.{none-holds}
 use Rattle.model.specs.Laws.Change.{column-below, on-range}
 use Rattle.model.specs.Laws.Cancelled.{cancelled-off, cancelled-byte, cancelled-held}
-use Rattle.model.specs.Laws.Masks.{bit-below, bit-past}
+use Rattle.model.specs.Laws.Masks.{bit-below, bit-past, no-bits}
 use Rattle.model.specs.Laws.Heads.{no-columns, counts-held, no-call, no-calls}
 use Rattle.layout.specs.Places.{causeOf, columnsOf, killerOf, rowsOf, cancelledByte, cancelled?}
 use Rattle.layout.specs.Memory.{State, lentOf}
+use Rattle.layout.specs.Sizes.{badLent?}
 use Rattle.tables.specs.Laws.Facts.{true-false, true-or-false, lt-or-le}
 use Rattle.model.specs.Refusals.{firstOf}
 use Rattle.model.specs.Numbers as refused
@@ -468,24 +471,56 @@ support-promise s p k t =
         (subst (λ (m : ℕ). SupportMeans (L .board) (ruleAt (L .board) p) k t (foundRow m (supportRow s p k t m))) (sym (rows-held L shape s rep p))
         (support-means L shape s rep p k t (there .0) (there .1) (there .2)))
 
--- OF A CANCELLED CALL (SCOPE 5.6) the mask is 0 with 0 ones,
-mask-none : (n : ℕ) (f : ℕ → Bool) → ((t : ℕ) → t < n → f t ≡ false) → maskOf n f ≡ 0
-mask-none zero f fails = refl
-mask-none (suc n) f fails = rw (mask-none n f (λ t h. fails t (omega arith)), fails n (omega arith)) refl
+-- OF A CANCELLED CALL (SCOPE 5.6), on a ledger's memory, each answer that keeps its promise: what it means leaves no other
+module _ (L : Ledger) (shape : LedgerShape L) (s : State) (rep : Represents L s) where
+  -- the call is on the board, so of it and of its slots nothing is refused
+  module _ (c : ℕ) (g : Cancelled (L .board) c) where
+    lent-passes : badLent? (lentOf s) ≡ false
+    lent-passes = rw (rep .stored .row-bytes .rows-size, rep .stored .killers-size, rep .stored .slots-size) refl
 
-pub cancelled-mask : (L : Ledger) → LedgerShape L → (s : State) → Represents L s → (c : ℕ) → Cancelled (L .board) c → slotsBy 0 (s .slots) c ≡ slots.Mask 0 0
-cancelled-mask L shape s rep c g =
-    ap (λ (m : ℕ). slots.Mask m (countBelow 32 (open? (s .slots) c))) (mask-none 32 (open? (s .slots) c) closed)
-    ∙ ap (λ (n : ℕ). slots.Mask 0 n) (count-none 32 (open? (s .slots) c) closed)
-  where
-    below : c < 32
-    below = omega (arith, shape .board .cancelled c g, shape .board .calls)
+    board-passes : noBoard? L ≡ false
+    board-passes = ne-eqb (length (L .board .counts)) 0 (λ e. omega (arith, shape .board .cancelled c g))
 
-    closed : (t : ℕ) → t < 32 → open? (s .slots) c t ≡ false
-    closed t lt =
-        ne-eqb (causeOf (s .slots) c t) 255
-        (λ e. let v = rep .stored .viable c t below lt .0 e in cancelled-off (L .board) (shape .board) (rep .stored) c t g (v .self .slots c t (v .has)))
+    call-passes : leb (length (L .board .counts)) c ≡ false
+    call-passes = lt-leb (length (L .board .counts)) c (shape .board .cancelled c g)
 
--- and no row supports a slot in its column
-pub cancelled-support : (B : Board) (r : Rule) (k t : ℕ) → Cancelled B (callAt r k) → NoSupport B r k t
-cancelled-support B r k t g w s = live-not B (callAt r k) (active-live B r k (s .active)) g
+    -- and none of these is viable
+    never-viable : (t : ℕ) → Viable (L .board) c t → ⊥
+    never-viable t v = cancelled-off (L .board) (shape .board) (rep .stored) c t g (v .self .slots c t (v .has))
+
+    -- the mask is 0 with 0 ones;
+    pub cancelled-mask : (given : OpenSlots) → SlotsPromise s c given → given ≡ slots.Mask 0 0
+    cancelled-mask given promise = go given (promise .answered L shape rep .means (rw (lent-passes, board-passes, call-passes) refl))
+      where
+        go : (a : OpenSlots) → SlotsMeans (L .board) c a → a ≡ slots.Mask 0 0
+        go (slots.Mask mask ones) means =
+            let clear : (t : ℕ) → T (bit? mask t) → ⊥ = λ t h. never-viable t (means .0 t .0 h) in
+            let none-set : mask ≡ 0 = no-bits mask mask (omega arith) clear in
+            let none-counted : ones ≡ 0 = means .1 ∙ count-none 32 (bit? mask) (λ t l. not→ (bit? mask t) (clear t)) in
+            ap (λ (x : ℕ). slots.Mask x ones) none-set ∙ ap (λ (x : ℕ). slots.Mask 0 x) none-counted
+        go (slots.Refused n) means = absurd means
+
+    -- the state of each of its slots is "cancelled";
+    pub cancelled-state : (t : ℕ) → t < getD (L .board .counts) c 0 → (given : SlotState) → StatePromise s c t given → given ≡ state.Cancelled
+    cancelled-state t lt given promise =
+        go given
+        (promise .answered L shape rep .means (rw (lent-passes, board-passes, call-passes, lt-leb (getD (L .board .counts) c 0) t lt) refl))
+      where
+        go : (a : SlotState) → StateMeans (L .board) c t a → a ≡ state.Cancelled
+        go state.Open means = absurd (never-viable t means)
+        go (state.Struck n) means = absurd (cancelled-off (L .board) (shape .board) (rep .stored) c t g (means .0))
+        go state.Cancelled means = refl
+        go (state.Refused n) means = absurd means
+
+  -- and in its column the support is "none", once the checks are passed
+  pub cancelled-support : (p k t : ℕ) → Cancelled (L .board) (callAt (ruleAt (L .board) p) k) → (given : Support) → SupportPromise s p k t given
+      → firstOf (supportConditions L (lentOf s) p k t) ≡ 0 → given ≡ support.Nothing
+  cancelled-support p k t g given promise passed = go given (promise .answered L shape rep .means passed)
+    where
+      go : (a : Support) → SupportMeans (L .board) (ruleAt (L .board) p) k t a → a ≡ support.Nothing
+      go (support.Row w) means =
+          absurd
+          (live-not (L .board) (callAt (ruleAt (L .board) p) k)
+          (active-live (L .board) (ruleAt (L .board) p) k (means .supporting .active)) g)
+      go support.Nothing means = refl
+      go (support.Refused n) means = absurd means

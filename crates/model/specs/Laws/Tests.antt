@@ -22,6 +22,10 @@ pub →and : (a b : Bool) → T a → T b → T (a && b)
 →and true b p q = q
 →and false b p q = p
 
+pub and-false : (a : Bool) → (a && false) ≡ false
+and-false true = refl
+and-false false = refl
+
 pub or→ : (a b : Bool) → T (a || b) → T a ⊎ T b
 or→ true b t = inl tt
 or→ false b t = inr t

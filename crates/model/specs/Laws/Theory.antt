@@ -67,10 +67,6 @@ below-active B r k h l = →and (ltb k (length (r .scope))) (live? B (callAt r k
 pub active-same : (B B′ : Board) (r r′ : Rule) (k : ℕ) → r .scope ≡ r′ .scope → (Live B (callAt r k) → Live B′ (callAt r′ k)) → Active B r k → Active B′ r′ k
 active-same B B′ r r′ k e to t = below-active B′ r′ k (rw e at (active-below B r k t)) (to (active-live B r k t))
 
--- a rule on a call is on it by an active column, so the call takes part
-pub scope-live : (B : Board) (r : Rule) (c : ℕ) → InScope B r c → Live B c
-scope-live B r c o = rw (o .call) at (active-live B r (o .column) (o .active))
-
 -- two rules in force under one number are one
 pub one-rule : (B : Board) (p : ℕ) {r r′ : Rule} → InForce B p r → InForce B p r′ → r ≡ r′
 one-rule B p e e′ = cc

@@ -1,4 +1,5 @@
 -- Where the row is refused the part is empty; otherwise the four bytes lie in the buffer, at the definition's place.
+use mathlib.Core.Path.{refl}
 use native.Mathlib.Nat.{add-sub-cancel-left}
 use native.Mathlib.Omega.{arith}
 use borrow.Author.Needs.{needs}
@@ -21,7 +22,11 @@ returns : tie.Need-returns
 returns c =
     let asked = c .before .before in
     let start = asked .before .before .before .before .before .before .before .before .before .before in
-    row-bytes-refused (state start) (start .args .rule) (start .args .row) (asked .row-refusal .ensures) (c .before .if1 .taken)
+    record {
+      promise = row-bytes-refused (state start) (start .args .rule) (start .args .row) (asked .row-refusal .ensures) (c .before .if1 .taken);
+      block = refl;
+      place = λ four. absurd (omega arith);
+    }
 
 mul-start : tie.Need-mul-start
 mul-start c = search needs
@@ -51,7 +56,11 @@ returns-2 : tie.Need-returns-2
 returns-2 c =
     let asked = c .before .before in
     let start = asked .before .before .before .before .before .before .before .before .before .before in
-    rw add-sub-cancel-left (row-bytes-given (state start) (start .args .rule) (start .args .row) (asked .row-refusal .ensures) (c .before .if1 .left))
+    record {
+      promise = rw add-sub-cancel-left (row-bytes-given (state start) (start .args .rule) (start .args .row) (asked .row-refusal .ensures) (c .before .if1 .left));
+      block = refl;
+      place = λ four. omega arith;
+    }
 
 pub row-bytes-spec : {M : Type 1} → statement M
 row-bytes-spec =

@@ -1,7 +1,6 @@
 -- The refusal of the checks is the answer's. Where there is none, the code's test of the column's call is the definition's; in an active column the search may look at
--- every row of the rule, and what it finds is the definition's.
+-- every row of the rule.
 use borrow.Author.Needs.{needs}
-use borrow.Author.Tests.{lt-ltb, le-ltb}
 use Rattle.questions.proofs.support.Statement.{statement}
 use Rattle.questions.proofs.support.Tie as tie
 use Rattle.layout.specs.Memory.{State, stateOf}
@@ -43,43 +42,22 @@ returns-2 c =
     support-cancelled (state start) (start .args .rule) (start .args .column) (start .args .slot) (asked .support-refusal .ensures) (clear .if1 .left)
     (rw (c .before .is-cancelled .ensures, call .byte-at .ensures) at (c .if2 .taken))
 
-rows-of-requires : tie.Need-rows-of-requires
-rows-of-requires c κs = search needs
-
-supporting-row-requires : tie.Need-supporting-row-requires
-supporting-row-requires c κs =
-    let clear = c .before .before .before .before .before .before in
+lowest-support-requires : tie.Need-lowest-support-requires
+lowest-support-requires c κs =
+    let clear = c .before .before .before .before .before in
     let asked = clear .before in
     let start = asked .before .before .before .before .before .before .before .before .before .before .before in
-    rw (c .rows-of .ensures)
-    (support-bounds (state start) (start .args .rule) (start .args .column) (start .args .slot) (asked .support-refusal .ensures) (clear .if1 .left))
-
-cast-t29 : tie.Need-cast-t29
-cast-t29 c = search needs
+    support-bounds (state start) (start .args .rule) (start .args .column) (start .args .slot) (asked .support-refusal .ensures) (clear .if1 .left)
 
 returns-3 : tie.Need-returns-3
 returns-3 c =
-    let held = c .before .before in
-    let active = held .before .before in
+    let active = c .before .before in
     let call = active .before .before in
     let clear = call .before .before in
     let asked = clear .before in
     let start = asked .before .before .before .before .before .before .before .before .before .before .before in
-    rw (lt-ltb _ _ (c .if3 .taken)) at
-    (support-given (state start) (start .args .rule) (start .args .column) (start .args .slot) (asked .support-refusal .ensures) (clear .if1 .left)
-    (rw (active .before .is-cancelled .ensures, call .byte-at .ensures) at (active .if2 .left)) (held .rows-of .ensures) (c .before .supporting-row .ensures))
-
-returns-4 : tie.Need-returns-4
-returns-4 c =
-    let held = c .before .before in
-    let active = held .before .before in
-    let call = active .before .before in
-    let clear = call .before .before in
-    let asked = clear .before in
-    let start = asked .before .before .before .before .before .before .before .before .before .before .before in
-    rw (le-ltb _ _ (c .if3 .left)) at
-    (support-given (state start) (start .args .rule) (start .args .column) (start .args .slot) (asked .support-refusal .ensures) (clear .if1 .left)
-    (rw (active .before .is-cancelled .ensures, call .byte-at .ensures) at (active .if2 .left)) (held .rows-of .ensures) (c .before .supporting-row .ensures))
+    support-given (state start) (start .args .rule) (start .args .column) (start .args .slot) (asked .support-refusal .ensures) (clear .if1 .left)
+    (rw (active .before .is-cancelled .ensures, call .byte-at .ensures) at (active .if2 .left)) (c .lowest-support .ensures)
 
 pub support-spec : {M : Type 1} → statement M
 support-spec =
@@ -93,8 +71,5 @@ support-spec =
     byte-at-requires
     is-cancelled-requires
     returns-2
-    rows-of-requires
-    supporting-row-requires
-    cast-t29
-    returns-3
-    returns-4)
+    lowest-support-requires
+    returns-3)

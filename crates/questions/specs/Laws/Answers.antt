@@ -13,6 +13,7 @@ use borrow.Author.Tests.{le-ltb}
 use Rattle.model.specs.declared.answer.OpenSlots.the-variants as slots
 use Rattle.model.specs.declared.answer.SlotState.the-variants as state
 use Rattle.model.specs.declared.answer.RowState.the-variants as row
+use Rattle.model.specs.declared.answer.Support.{Support}
 use Rattle.model.specs.declared.answer.Support.the-variants as support
 use Rattle.model.specs.Tests.{first}
 use Rattle.model.specs.Report.{open?}
@@ -20,6 +21,7 @@ use Rattle.model.specs.Questions.{callChecks, slotChecks, rowChecks, supportChe
 use Rattle.model.specs.Laws.Questions.{slots-promise, state-promise, row-promise, row-bytes-promise, support-promise}
 use Rattle.layout.specs.Places.{causeOf, killerOf, rowsOf, cancelledByte}
 use Rattle.layout.specs.Memory.{State}
+use Rattle.questions.specs.Parts.{activeSupport}
 use Rattle.questions.specs.Laws.Mask.{ones-mask}
 use Rattle.model.specs.Refusals.{firstOf}
 
@@ -65,19 +67,24 @@ module _ (s : State) {n : ℕ} where
       rw (refused-by support.Refused (λ n. supportBy n m (supportRow s p k t m)) (λ n. refl) e r) (support-promise s p k t)
 
   -- a row is looked for, unless the column's call is cancelled
-  support-found : (p k t : ℕ) {m : ℕ} → n ≡ firstOf (supportChecks s p k t) → n ≡ 0 → m ≡ rowsOf (s .value .heads .lengths) p
-      → SupportPromise s p k t (foundRow m (supportRow s p k t m))
-  support-found p k t e z h =
+  support-found : (p k t : ℕ) → n ≡ firstOf (supportChecks s p k t) → n ≡ 0
+      → let m = rowsOf (s .value .heads .lengths) p in SupportPromise s p k t (foundRow m (supportRow s p k t m))
+  support-found p k t e z =
       let m = rowsOf (s .value .heads .lengths) p in
-      rw h (subst (λ (n : ℕ). SupportPromise s p k t (supportBy n m (supportRow s p k t m))) (sym e ∙ z) (support-promise s p k t))
+      subst (λ (n : ℕ). SupportPromise s p k t (supportBy n m (supportRow s p k t m))) (sym e ∙ z) (support-promise s p k t)
 
-  pub support-given : (p k t : ℕ) {m w : ℕ} → n ≡ firstOf (supportChecks s p k t) → n ≡ 0 → columnCancelled? s p k ≡ false → m ≡ rowsOf (s .value .heads .lengths) p
-      → w ≡ first m (supports? s p k t) → SupportPromise s p k t (foundRow m w)
-  support-given p k t {m} e z active h g =
-      rw g (subst (λ (b : Bool). SupportPromise s p k t (foundRow m (cond b m (first m (supports? s p k t))))) active (support-found p k t e z h))
+  pub support-given : (p k t : ℕ) {r : Support} → n ≡ firstOf (supportChecks s p k t) → n ≡ 0 → columnCancelled? s p k ≡ false → r ≡ activeSupport s p k t
+      → SupportPromise s p k t r
+  support-given p k t e z active g =
+      let m = rowsOf (s .value .heads .lengths) p in
+      rw g (subst (λ (b : Bool). SupportPromise s p k t (foundRow m (cond b m (first m (supports? s p k t))))) active (support-found p k t e z))
 
   pub support-cancelled : (p k t : ℕ) → n ≡ firstOf (supportChecks s p k t) → n ≡ 0 → columnCancelled? s p k ≡ true → SupportPromise s p k t support.Nothing
   support-cancelled p k t e z off =
       let m = rowsOf (s .value .heads .lengths) p in
       rw (le-ltb m m (omega arith)) at
-      (subst (λ (b : Bool). SupportPromise s p k t (foundRow m (cond b m (first m (supports? s p k t))))) off (support-found p k t e z refl))
+      (subst (λ (b : Bool). SupportPromise s p k t (foundRow m (cond b m (first m (supports? s p k t))))) off (support-found p k t e z))
+
+-- a row that was searched for among all of the rule's is its support in an active column
+pub row-found : (s : State) (p k t : ℕ) {m w : ℕ} → m ≡ rowsOf (s .value .heads .lengths) p → w ≡ first m (supports? s p k t) → foundRow m w ≡ activeSupport s p k t
+row-found s p k t e h = rw (h, e) refl

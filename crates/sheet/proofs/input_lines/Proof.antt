@@ -8,7 +8,7 @@ refusal-line-requires : tie.Need-refusal-line-requires
 refusal-line-requires c κs = search needs
 
 same-length : tie.Need-same-length
-same-length c = search needs
+same-length c = search
 
 returns : tie.Need-returns
 returns c =
@@ -16,10 +16,10 @@ returns c =
     too-long _ (line .before .before .if1 .taken) (line .refusal-line .ensures)
 
 file-lines-requires : tie.Need-file-lines-requires
-file-lines-requires c κs = search needs
+file-lines-requires c κs = search
 
 same-length-2 : tie.Need-same-length-2
-same-length-2 c = search needs
+same-length-2 c = search
 
 returns-2 : tie.Need-returns-2
 returns-2 c =

@@ -8,13 +8,13 @@ returns : tie.Need-returns
 returns c = sheet-refused _ _ (c .if1 .taken)
 
 input-lines-requires : tie.Need-input-lines-requires
-input-lines-requires c κs = search needs
+input-lines-requires c κs = search
 
 end-line-requires : tie.Need-end-line-requires
 end-line-requires c κs = search needs
 
 same-length : tie.Need-same-length
-same-length c = search needs
+same-length c = search
 
 returns-2 : tie.Need-returns-2
 returns-2 c =

@@ -18,8 +18,8 @@ use Rattle.model.specs.Sheet.{refusedLine, fileRefusal, upToRefusal, readsFrom,
 use Rattle.model.specs.Laws.Shapes.{effect-shape, counts-most}
 use Rattle.command_obey.specs.Obeys.{Obeys}
 use Rattle.sheet.specs.declared.advance.Progress.{Progress}
-use Rattle.sheet.specs.Line.{answerLine, ShortAnswer, LineAppended}
-use Rattle.sheet.specs.Advance.{ledgerNext, lineOf, placeBy, nextPlace, Held, Advanced}
+use Rattle.sheet.specs.Line.{ShortAnswer, LineAppended}
+use Rattle.sheet.specs.Advance.{ledgerNext, lineOf, placeBy, nextPlace, Held, CommandAdvanced, Advanced}
 use Rattle.sheet.specs.Laws.Answers.{answer-line, answer-short}
 use Rattle.layout.specs.Memory.{MarkedState}
 use Rattle.sheet_lines.specs.Laws.Append.{append-none, append-same}
@@ -99,15 +99,15 @@ pub advanced-same : {d x : Decoded} {end : ℕ} {p r : Progress} {before after :
 advanced-same e t = rw e at t
 
 module _ (d : Decoded) (end : ℕ) (p : Progress) (before : MarkedState) (old : List ℕ) (r : Progress) where
-  pub advanced-command : (c : Command) → d .read ≡ found.Command c → (given : Answer) (after : MarkedState) (new : List ℕ) → r .read ≡ d .next
-      → Obeys before c (d .counts) given after → LineAppended (answerLine c given) (p .written) old new (r .written) → Advanced d end p before old r after new
+  pub advanced-command : (c : Command) → d .read ≡ found.Command c → (after : MarkedState) (new : List ℕ) → CommandAdvanced c d p before old r after new
+      → Advanced d end p before old r after new
   unfolding ledgerNext lineOf nextPlace
-  advanced-command c e given after new next obeys line =
+  advanced-command c e after new x =
       record {
-        read = rw e next;
-        short = line .short;
-        line = λ L shape rep. rw e (append-same (answer-line L before after c (d .counts) rep given (obeys .promise .obeyed L shape rep)) (line .appended));
-        represents = λ L shape rep. rw e (obeys .promise .obeyed L shape rep .represents);
+        read = rw e (x .read);
+        short = x .line .short;
+        line = λ L shape rep. rw e (append-same (answer-line L before after c (d .counts) rep (x .given) (x .obeys .promise .obeyed L shape rep)) (x .line .appended));
+        represents = λ L shape rep. rw e (x .obeys .promise .obeyed L shape rep .represents);
       }
 
   pub advanced-refused : (k n : ℕ) → d .read ≡ found.Refused k n → (new : List ℕ) → r .read ≡ end

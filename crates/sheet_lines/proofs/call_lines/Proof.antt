@@ -36,7 +36,7 @@ loop-again c =
     (omega arith, joined-more _ (x .before .before .before .loop .inv .1) (x .call-line .ensures))
 
 same-length : tie.Need-same-length Inv-loop μ-loop
-same-length c = search needs
+same-length c = search
 
 returns : tie.Need-returns Inv-loop μ-loop
 returns c = joined-at _ (c .before .loop .inv .1) (omega arith) (omega arith)

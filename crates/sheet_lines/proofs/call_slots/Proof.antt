@@ -27,7 +27,7 @@ open-slots-requires c κs =
     (room-same (no-dash (s .args .slots .now) (s .args .c) (c .before .if1 .left)) (s .pre .0), s .pre .1)
 
 same-length : tie.Need-same-length
-same-length c = search needs
+same-length c = search
 
 returns : tie.Need-returns
 returns c =
@@ -37,7 +37,7 @@ returns c =
     append-same (sym (dash (s .args .slots .now) (s .args .c) (off .if1 .taken))) (x .write-bytes .ensures)
 
 same-length-2 : tie.Need-same-length-2
-same-length-2 c = search needs
+same-length-2 c = search
 
 returns-2 : tie.Need-returns-2
 returns-2 c =

@@ -22,7 +22,7 @@ write-spaced-requires c κs =
     (room-same (open-number (s .args .slots .now) (s .args .c) (s .args .s) (c .before .if1 .taken)) (s .pre .0), omega arith)
 
 same-length : tie.Need-same-length
-same-length c = search needs
+same-length c = search
 
 returns : tie.Need-returns
 returns c =

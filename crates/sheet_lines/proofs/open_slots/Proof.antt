@@ -40,7 +40,7 @@ loop-again c =
     (omega arith, joined-more _ (x .before .before .before .loop .inv .1) (x .open-slot .ensures))
 
 same-length : tie.Need-same-length Inv-loop μ-loop
-same-length c = search needs
+same-length c = search
 
 returns : tie.Need-returns Inv-loop μ-loop
 returns c = append-same (open-joined _ _) (joined-at _ (c .before .loop .inv .1) (omega arith) (omega arith))

@@ -1,7 +1,6 @@
 -- The three calls write the parts of the line, and there is room for each after the ones before it.
 use mathlib.Core.List.{[], _∷_}
 use native.Mathlib.Omega.{arith}
-use borrow.Author.Needs.{needs}
 use Rattle.sheet_lines.proofs.refused_line.Statement.{statement}
 use Rattle.sheet_lines.proofs.refused_line.Tie as tie
 use Rattle.sheet_lines.specs.Laws.Append.{append-more, append-same, room-parts, room-first, room-rest}
@@ -28,7 +27,7 @@ write-byte-requires c κs =
     room-first (room-rest (room-rest room (x .write-start .ensures)) (y .write-spaced .ensures))
 
 same-length : tie.Need-same-length
-same-length c = search needs
+same-length c = search
 
 returns : tie.Need-returns
 returns c =

@@ -1,5 +1,4 @@
 -- The two calls write the parts of the line, and there is room for the second after the first.
-use borrow.Author.Needs.{needs}
 use Rattle.sheet_lines.proofs.total_line.Statement.{statement}
 use Rattle.sheet_lines.proofs.total_line.Tie as tie
 use Rattle.sheet_lines.specs.Laws.Append.{append-more, room-parts, room-first, room-rest}
@@ -17,7 +16,7 @@ write-byte-requires c κs =
     room-first (room-rest (room-parts (total-parts (s .args .total)) (s .pre .0)) (x .write-start .ensures))
 
 same-length : tie.Need-same-length
-same-length c = search needs
+same-length c = search
 
 returns : tie.Need-returns
 returns c =

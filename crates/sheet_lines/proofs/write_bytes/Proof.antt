@@ -44,7 +44,7 @@ loop-again c =
     (omega arith, joined-more _ (call .before .before .before .before .loop .inv .1) (call .write-byte .ensures))
 
 same-length : tie.Need-same-length Inv-loop μ-loop
-same-length c = search needs
+same-length c = search
 
 returns : tie.Need-returns Inv-loop μ-loop
 returns c =

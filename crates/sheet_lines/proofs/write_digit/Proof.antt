@@ -18,7 +18,7 @@ write-byte-requires : tie.Need-write-byte-requires
 write-byte-requires c κs = simp (le-leb _ _ (c .before .if1 .taken)) at (c .before .before .before .pre .0)
 
 same-length : tie.Need-same-length
-same-length c = search needs
+same-length c = search
 
 returns : tie.Need-returns
 returns c = simp (le-leb _ _ (c .before .before .before .before .if1 .taken)) (c .before .before .write-byte .ensures)

@@ -18,7 +18,7 @@ write-decimal-requires c κs =
     (room-first (room-rest (room-parts (spaced-parts (s .args .n)) (s .pre .0)) (x .write-byte .ensures)), s .pre .1)
 
 same-length : tie.Need-same-length
-same-length c = search needs
+same-length c = search
 
 returns : tie.Need-returns
 returns c =

@@ -11,7 +11,7 @@ write-spaced-requires : tie.Need-write-spaced-requires
 write-spaced-requires c κs = search needs
 
 same-length : tie.Need-same-length
-same-length c = search needs
+same-length c = search
 
 returns : tie.Need-returns
 returns c =

@@ -20,7 +20,7 @@ loop-holds : tie.Need-loop-holds Inv-loop μ-loop
 loop-holds c = (omega arith, search needs, filled-none _ _)
 
 slot-byte-requires : tie.Need-slot-byte-requires Inv-loop μ-loop
-slot-byte-requires c κs = search needs
+slot-byte-requires c κs = search
 
 slice-write-slots : tie.Need-slice-write-slots Inv-loop μ-loop
 slice-write-slots c = search needs
@@ -37,7 +37,7 @@ loop-again c =
     (omega arith, l .inv .1, filled-more _ (l .place) _ _ _ (l .inv .2) (search needs) (c .slot-byte .ensures))
 
 same-length : tie.Need-same-length Inv-loop μ-loop
-same-length c = search needs
+same-length c = search
 
 returns : tie.Need-returns Inv-loop μ-loop
 returns c =

@@ -6,7 +6,7 @@ use Rattle.command_board.proofs.new_board.make_board.Statement.{stateme
 use Rattle.command_board.proofs.new_board.make_board.Tie as tie
 
 bad-counts-requires : tie.Need-bad-counts-requires
-bad-counts-requires c κs = search needs
+bad-counts-requires c κs = search
 
 refused-requires : tie.Need-refused-requires
 refused-requires c κs = search needs
@@ -17,7 +17,7 @@ returns c =
     rw (c .refused .ensures) (makes-nothing _ _ (sym (tested .before .bad-counts .ensures) ∙ tested .if1 .taken))
 
 clear-requires : tie.Need-clear-requires
-clear-requires c κs = search needs
+clear-requires c κs = search
 
 bare-value-requires : tie.Need-bare-value-requires
 bare-value-requires c κs = search needs
@@ -26,13 +26,13 @@ accepted-requires : tie.Need-accepted-requires
 accepted-requires c κs = search needs
 
 same-length : tie.Need-same-length
-same-length c = search needs
+same-length c = search
 
 same-length-2 : tie.Need-same-length-2
-same-length-2 c = search needs
+same-length-2 c = search
 
 same-length-3 : tie.Need-same-length-3
-same-length-3 c = search needs
+same-length-3 c = search
 
 returns-2 : tie.Need-returns-2
 returns-2 c =

@@ -12,7 +12,7 @@ refused-requires : tie.Need-refused-requires
 refused-requires c κs = search needs
 
 same-length : tie.Need-same-length
-same-length c = search needs
+same-length c = search
 
 returns : tie.Need-returns
 returns c ns =
@@ -20,13 +20,13 @@ returns c ns =
     rw (c .refused .ensures) (cancel-refused _ _ ns _ (tested .if1 .taken) (tested .before .check-cancel .ensures))
 
 cancel-unchecked-requires : tie.Need-cancel-unchecked-requires
-cancel-unchecked-requires c κs = search needs
+cancel-unchecked-requires c κs = search
 
 same-length-2 : tie.Need-same-length-2
-same-length-2 c = search needs
+same-length-2 c = search
 
 same-length-3 : tie.Need-same-length-3
-same-length-3 c = search needs
+same-length-3 c = search
 
 returns-2 : tie.Need-returns-2
 returns-2 c ns =

@@ -16,7 +16,7 @@ passes-requires : tie.Need-passes-requires
 passes-requires c κs = search needs
 
 write-pair-requires : tie.Need-write-pair-requires
-write-pair-requires c κs = search needs
+write-pair-requires c κs = search
 
 add-result : tie.Need-add-result
 add-result c = let start = c .before .before .before .before in omega (arith, listed-few (start .pre .1), start .pre .0)

@@ -24,7 +24,7 @@ returns : tie.Need-returns
 returns c = rw (lt-ltb (c .before .args .w) 64 (c .if1 .taken)) refl
 
 returns-2 : tie.Need-returns-2
-returns-2 c = rw (le-ltb (c .before .args .w) 64 (search needs)) refl
+returns-2 c = rw (le-ltb (c .before .args .w) 64 (search)) refl
 
 pub write-pair-spec : {M : Type 1} → statement M
 write-pair-spec =

@@ -26,13 +26,13 @@ back-unchecked-requires c κs =
     (back-known (a .value .heads .counts) (a .names .now) (a .name) _ (tested .if1 .left) (tested .before .check-back .ensures), start .pre)
 
 same-length : tie.Need-same-length
-same-length c = search needs
+same-length c = search
 
 same-length-2 : tie.Need-same-length-2
-same-length-2 c = search needs
+same-length-2 c = search
 
 same-length-3 : tie.Need-same-length-3
-same-length-3 c = search needs
+same-length-3 c = search
 
 returns-2 : tie.Need-returns-2
 returns-2 c =

@@ -2,18 +2,17 @@
 use Rattle.layout.specs.Marks.{markedSlots}
 use Rattle.command_mark.specs.Laws.Changes.{between-few}
 use Rattle.command_mark.specs.Laws.Kinds.{brings-back}
-use borrow.Author.Needs.{needs}
 use Rattle.command_mark.proofs.back.back_unchecked.Statement.{statement}
 use Rattle.command_mark.proofs.back.back_unchecked.Tie as tie
 
 heads-under-requires : tie.Need-heads-under-requires
-heads-under-requires c κs = search needs
+heads-under-requires c κs = search
 
 changes-back-requires : tie.Need-changes-back-requires
-changes-back-requires c κs = search needs
+changes-back-requires c κs = search
 
 bring-back-requires : tie.Need-bring-back-requires
-bring-back-requires c κs = search needs
+bring-back-requires c κs = search
 
 back-outcome-requires : tie.Need-back-outcome-requires
 back-outcome-requires c κs =
@@ -22,13 +21,13 @@ back-outcome-requires c κs =
     between-few {before = a .slots .now} {after = markedSlots (a .marks .now) (a .name)} (counted .changes-back .ensures)
 
 same-length : tie.Need-same-length
-same-length c = search needs
+same-length c = search
 
 same-length-2 : tie.Need-same-length-2
-same-length-2 c = search needs
+same-length-2 c = search
 
 same-length-3 : tie.Need-same-length-3
-same-length-3 c = search needs
+same-length-3 c = search
 
 returns : tie.Need-returns
 returns c =

@@ -20,7 +20,7 @@ copy-bytes-requires : tie.Need-copy-bytes-requires
 copy-bytes-requires c κs = search needs
 
 same-length : tie.Need-same-length
-same-length c = search needs
+same-length c = search
 
 returns : tie.Need-returns
 returns c =

@@ -26,7 +26,7 @@ write-part-requires-3 : tie.Need-write-part-requires-3
 write-part-requires-3 c κs = search needs
 
 same-length : tie.Need-same-length
-same-length c = search needs
+same-length c = search
 
 returns : tie.Need-returns
 returns c =

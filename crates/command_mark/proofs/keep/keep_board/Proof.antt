@@ -26,7 +26,7 @@ keep-unchecked-requires c κs =
     (name-known (a .value .heads .counts) (a .name) _ (tested .if1 .left) (tested .before .check-keep .ensures), start .pre)
 
 same-length : tie.Need-same-length
-same-length c = search needs
+same-length c = search
 
 returns-2 : tie.Need-returns-2
 returns-2 c =

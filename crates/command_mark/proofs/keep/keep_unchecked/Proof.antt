@@ -5,16 +5,16 @@ use Rattle.command_mark.proofs.keep.keep_unchecked.Statement.{statement
 use Rattle.command_mark.proofs.keep.keep_unchecked.Tie as tie
 
 keep-requires : tie.Need-keep-requires
-keep-requires c κs = search needs
+keep-requires c κs = search
 
 store-name-requires : tie.Need-store-name-requires
-store-name-requires c κs = search needs
+store-name-requires c κs = search
 
 accepted-requires : tie.Need-accepted-requires
 accepted-requires c κs = search needs
 
 same-length : tie.Need-same-length
-same-length c = search needs
+same-length c = search
 
 returns : tie.Need-returns
 returns c =

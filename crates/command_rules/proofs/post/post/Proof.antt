@@ -17,7 +17,7 @@ returns c ns =
     rw (c .refused .ensures) (post-refused _ ns _ (tested .if1 .taken) (tested .before .check-post .ensures))
 
 post-unchecked-requires : tie.Need-post-unchecked-requires
-post-unchecked-requires c κs = search needs
+post-unchecked-requires c κs = search
 
 empty-requires : tie.Need-empty-requires
 empty-requires c κs = search needs
@@ -26,13 +26,13 @@ with-draft-requires : tie.Need-with-draft-requires
 with-draft-requires c κs = search needs
 
 same-length : tie.Need-same-length
-same-length c = search needs
+same-length c = search
 
 same-length-2 : tie.Need-same-length-2
-same-length-2 c = search needs
+same-length-2 c = search
 
 same-length-3 : tie.Need-same-length-3
-same-length-3 c = search needs
+same-length-3 c = search
 
 returns-2 : tie.Need-returns-2
 returns-2 c ns =

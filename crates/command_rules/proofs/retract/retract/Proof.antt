@@ -17,16 +17,16 @@ returns c ns =
     rw (c .refused .ensures) (retract-refused _ _ ns _ (tested .if1 .taken) (tested .before .check-retract .ensures))
 
 retract-unchecked-requires : tie.Need-retract-unchecked-requires
-retract-unchecked-requires c κs = search needs
+retract-unchecked-requires c κs = search
 
 same-length : tie.Need-same-length
-same-length c = search needs
+same-length c = search
 
 same-length-2 : tie.Need-same-length-2
-same-length-2 c = search needs
+same-length-2 c = search
 
 same-length-3 : tie.Need-same-length-3
-same-length-3 c = search needs
+same-length-3 c = search
 
 returns-2 : tie.Need-returns-2
 returns-2 c ns =

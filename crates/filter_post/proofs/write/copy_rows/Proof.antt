@@ -39,7 +39,7 @@ loop-again : tie.Need-loop-again Inv-loop μ-loop
 loop-again c = sweep-stores (c .before .before .loop .inv) (omega arith) (omega arith) refl
 
 same-length : tie.Need-same-length Inv-loop μ-loop
-same-length c = search needs
+same-length c = search
 
 returns : tie.Need-returns Inv-loop μ-loop
 returns c = sweep-ends (c .before .loop .inv) (omega arith)

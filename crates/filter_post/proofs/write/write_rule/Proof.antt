@@ -11,13 +11,13 @@ element-write-lengths : tie.Need-element-write-lengths
 element-write-lengths c = search needs
 
 copy-scope-requires : tie.Need-copy-scope-requires
-copy-scope-requires c κs = search needs
+copy-scope-requires c κs = search
 
 copy-rows-requires : tie.Need-copy-rows-requires
-copy-rows-requires c κs = search needs
+copy-rows-requires c κs = search
 
 same-length : tie.Need-same-length
-same-length c = search needs
+same-length c = search
 
 returns : tie.Need-returns
 returns c =

@@ -37,7 +37,7 @@ expand-requires c κs =
     (pre .0, (closing-size _ (inv .1), (pre .1 .1 .0, (lt, inv .0 .here lt))))
 
 next-rule-requires-2 : tie.Need-next-rule-requires-2 Inv-loop μ-loop
-next-rule-requires-2 c κs = search needs
+next-rule-requires-2 c κs = search
 
 loop-less : tie.Need-loop-less Inv-loop μ-loop
 loop-less c = c .before .expand .ensures .less

@@ -1,15 +1,14 @@
 -- The scan says which calls have a new slot, and so which rules become pending.
 use Rattle.filter_propagate.specs.Rules.{rulesIn}
 use Rattle.filter_relax.specs.Laws.Closure.{expanded}
-use borrow.Author.Needs.{needs}
 use Rattle.filter_relax.proofs.closure.expand.Statement.{statement}
 use Rattle.filter_relax.proofs.closure.expand.Tie as tie
 
 scan-rule-requires : tie.Need-scan-rule-requires
-scan-rule-requires c κs = search needs
+scan-rule-requires c κs = search
 
 enqueue-requires : tie.Need-enqueue-requires
-enqueue-requires c κs = search needs
+enqueue-requires c κs = search
 
 returns : tie.Need-returns
 returns c =

@@ -12,16 +12,16 @@ use Rattle.filter_relax.proofs.reopen.reopen_calls.Statement.{statement
 use Rattle.filter_relax.proofs.reopen.reopen_calls.Tie as tie
 
 abbrev Inv-loop : tie.InvT-loop
-Inv-loop slots₀ visited calls b total₀ left₀ slots total left = CallsReopened b total calls left visited slots₀ slots
+Inv-loop slots₀ visited calls total₀ left₀ slots total left = CallsReopened total calls left visited slots₀ slots
 
 abbrev μ-loop : tie.MeasureT-loop
-μ-loop slots₀ visited calls b total₀ left₀ slots total left = left
+μ-loop slots₀ visited calls total₀ left₀ slots total left = left
 
 below : (c : tie.In-loop Inv-loop μ-loop) → trailingZeros 32 (c .before .loop .left) < 32
 below c = left-lowest (c .loop-test .taken) (c .before .loop .inv .lowest) .place
 
 loop-holds : tie.Need-loop-holds Inv-loop μ-loop
-loop-holds c = calls-none _ _ _ _ (omega arith)
+loop-holds c = calls-none _ _ _ (omega arith)
 
 cast-c : tie.Need-cast-c Inv-loop μ-loop
 cast-c c = omega (arith, below c)

@@ -1,4 +1,4 @@
--- The slots that are not left hold the byte; the lowest of those left is next.
+-- The slots that are not left are open; the lowest of those left is next.
 use Prim.Native.Nat.{_-_, _<_}
 use native.Mathlib.Omega.{arith}
 use lib.Bits.{and-le-r}
@@ -10,16 +10,16 @@ use Rattle.filter_relax.proofs.reopen.reopen_slots.Statement.{statement
 use Rattle.filter_relax.proofs.reopen.reopen_slots.Tie as tie
 
 abbrev Inv-loop : tie.InvT-loop
-Inv-loop slots₀ b c mask left₀ slots left = SlotsReopened b c mask left slots₀ slots
+Inv-loop slots₀ c mask left₀ slots left = SlotsReopened c mask left slots₀ slots
 
 abbrev μ-loop : tie.MeasureT-loop
-μ-loop slots₀ b c mask left₀ slots left = left
+μ-loop slots₀ c mask left₀ slots left = left
 
 below : (c : tie.In-loop Inv-loop μ-loop) → trailingZeros 32 (c .before .loop .left) < 32
 below c = left-lowest (c .loop-test .taken) (c .before .loop .inv .lowest) .place
 
 loop-holds : tie.Need-loop-holds Inv-loop μ-loop
-loop-holds c = slots-none _ _ _ _ (omega arith)
+loop-holds c = slots-none _ _ _ (omega arith)
 
 cast-s : tie.Need-cast-s Inv-loop μ-loop
 cast-s c = omega (arith, below c)

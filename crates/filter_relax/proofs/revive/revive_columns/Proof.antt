@@ -12,7 +12,7 @@ revive-rows-requires : tie.Need-revive-rows-requires
 revive-rows-requires c κs = search needs
 
 same-length : tie.Need-same-length
-same-length c = search needs
+same-length c = search
 
 returns : tie.Need-returns
 returns c =
@@ -27,7 +27,7 @@ revive-rows-requires-2 : tie.Need-revive-rows-requires-2
 revive-rows-requires-2 c κs = search needs
 
 same-length-2 : tie.Need-same-length-2
-same-length-2 c = search needs
+same-length-2 c = search
 
 returns-2 : tie.Need-returns-2
 returns-2 c =
@@ -39,10 +39,10 @@ revive-rows-requires-3 : tie.Need-revive-rows-requires-3
 revive-rows-requires-3 c κs = search needs
 
 same-length-3 : tie.Need-same-length-3
-same-length-3 c = search needs
+same-length-3 c = search
 
 returns-3 : tie.Need-returns-3
-returns-3 c = search needs
+returns-3 c = search
 
 pub revive-columns-spec : {M : Type 1} → statement M
 revive-columns-spec =

@@ -7,7 +7,7 @@ use Rattle.filter_relax.proofs.revive.revive_row.Statement.{statement}
 use Rattle.filter_relax.proofs.revive.revive_row.Tie as tie
 
 row-slots-requires : tie.Need-row-slots-requires
-row-slots-requires c κs = search needs
+row-slots-requires c κs = search
 
 mul-old : tie.Need-mul-old
 mul-old c = search needs

@@ -30,7 +30,7 @@ loop-again : tie.Need-loop-again Inv-loop μ-loop
 loop-again c = (omega arith, swept-more 0 _ _ _ _ _ _ (c .before .before .before .before .before .loop .inv .1) (c .before .before .revive-row .ensures))
 
 same-length : tie.Need-same-length Inv-loop μ-loop
-same-length c = search needs
+same-length c = search
 
 returns : tie.Need-returns Inv-loop μ-loop
 returns c = swept-at 0 _ _ (c .before .loop .inv .1) (omega arith) (omega arith)

@@ -19,13 +19,13 @@ cap-requires-2 : tie.Need-cap-requires-2
 cap-requires-2 c κs = search needs
 
 column-sets-requires : tie.Need-column-sets-requires
-column-sets-requires c κs = search needs
+column-sets-requires c κs = search
 
 revive-columns-requires : tie.Need-revive-columns-requires
-revive-columns-requires c κs = (search needs, (search needs, sets-past (c .before .column-sets .ensures)))
+revive-columns-requires c κs = (search needs, (search, sets-past (c .before .column-sets .ensures)))
 
 same-length : tie.Need-same-length
-same-length c = search needs
+same-length c = search
 
 returns : tie.Need-returns
 returns c =

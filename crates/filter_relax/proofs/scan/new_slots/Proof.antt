@@ -7,10 +7,10 @@ use Rattle.filter_relax.proofs.scan.new_slots.Statement.{statement}
 use Rattle.filter_relax.proofs.scan.new_slots.Tie as tie
 
 column-sets-requires : tie.Need-column-sets-requires
-column-sets-requires c κs = search needs
+column-sets-requires c κs = search
 
 scan-columns-requires : tie.Need-scan-columns-requires
-scan-columns-requires c κs = (search needs, (search needs, sets-past (c .column-sets .ensures)))
+scan-columns-requires c κs = (search, (search, sets-past (c .column-sets .ensures)))
 
 common-requires : tie.Need-common-requires
 common-requires c κs = search needs

@@ -5,7 +5,7 @@ use Rattle.filter_relax.proofs.scan.scan_row.Statement.{statement}
 use Rattle.filter_relax.proofs.scan.scan_row.Tie as tie
 
 row-slots-requires : tie.Need-row-slots-requires
-row-slots-requires c κs = search needs
+row-slots-requires c κs = search
 
 mul-killer-bit : tie.Need-mul-killer-bit
 mul-killer-bit c = search needs

@@ -11,13 +11,13 @@ cap-requires : tie.Need-cap-requires
 cap-requires c κs = search needs
 
 columns-wanted-requires : tie.Need-columns-wanted-requires
-columns-wanted-requires c κs = search needs
+columns-wanted-requires c κs = search
 
 all-empty-requires : tie.Need-all-empty-requires
 all-empty-requires c κs = search needs
 
 returns : tie.Need-returns
-returns c = scans-quiet _ _ _ _ _ _ (c .before .before .before .before .cap .ensures) (search needs) _ (c .before .before .columns-wanted .ensures) (c .before .all-empty .ensures .none (c .if1 .taken))
+returns c = scans-quiet _ _ _ _ _ _ (c .before .before .before .before .cap .ensures) (search) _ (c .before .before .columns-wanted .ensures) (c .before .all-empty .ensures .none (c .if1 .taken))
 
 element-copy-out-cap-2 : tie.Need-element-copy-out-cap-2
 element-copy-out-cap-2 c = search needs
@@ -26,10 +26,10 @@ cap-requires-2 : tie.Need-cap-requires-2
 cap-requires-2 c κs = search needs
 
 new-slots-requires : tie.Need-new-slots-requires
-new-slots-requires c κs = (search needs, (search needs, wanted-past (c .before .before .before .before .before .columns-wanted .ensures)))
+new-slots-requires c κs = (search needs, (search, wanted-past (c .before .before .before .before .before .columns-wanted .ensures)))
 
 visit-columns-requires : tie.Need-visit-columns-requires
-visit-columns-requires c κs = search needs
+visit-columns-requires c κs = search
 
 returns-2 : tie.Need-returns-2
 returns-2 c =

@@ -27,7 +27,7 @@ shl-result : tie.Need-shl-result
 shl-result c = search needs
 
 returns-2 : tie.Need-returns-2
-returns-2 c = adds-mask _ _ _ _ (search needs) (search needs) (omega arith) (c .before .if1 .left)
+returns-2 c = adds-mask _ _ _ _ (search) (search) (omega arith) (c .before .if1 .left)
 
 pub visit-call-spec : {M : Type 1} → statement M
 visit-call-spec =

@@ -22,7 +22,7 @@ store-name-requires-2 c κs = search needs
 returns : tie.Need-returns
 returns c =
     let stored = c .before .before .before in
-    forgotten _ (search needs) (stored .before .before .before .fill .ensures) (stored .before .fresh .ensures) (stored .store-name .ensures) (c .before .fresh2 .ensures)
+    forgotten _ (search) (stored .before .before .before .fill .ensures) (stored .before .fresh .ensures) (stored .store-name .ensures) (c .before .fresh2 .ensures)
     (c .store-name2 .ensures)
 
 pub forget-spec : {M : Type 1} → statement M

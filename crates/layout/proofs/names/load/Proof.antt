@@ -40,7 +40,7 @@ loop-again c =
     (omega arith, l .inv .1, filled-more _ (l .i) _ _ _ (l .inv .2) (search needs) refl)
 
 same-length : tie.Need-same-length Inv-loop μ-loop
-same-length c = search needs
+same-length c = search
 
 returns : tie.Need-returns Inv-loop μ-loop
 returns c =

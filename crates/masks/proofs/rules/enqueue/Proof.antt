@@ -9,7 +9,7 @@ rules-on-requires : tie.Need-rules-on-requires
 rules-on-requires c κs = search needs
 
 without-requires : tie.Need-without-requires
-without-requires c κs = search needs
+without-requires c κs = search
 
 returns : tie.Need-returns
 returns c =

@@ -1,12 +1,11 @@
 -- The calls are at most 32, and each has a line of at most 91 bytes; behind them there is room for the line of the whole. Where there is no call nothing is written.
 use mathlib.Core.Path.{_∙_}
-use borrow.Author.Needs.{needs}
 use Rattle.sheet.specs.Laws.File.{calls-most, calls-room, none-appended, total-asks, board-appended}
 use Rattle.sheet.proofs.file.board_lines.Statement.{statement}
 use Rattle.sheet.proofs.file.board_lines.Tie as tie
 
 call-count-requires : tie.Need-call-count-requires
-call-count-requires c κs = search needs
+call-count-requires c κs = search
 
 returns : tie.Need-returns
 returns c =
@@ -22,7 +21,7 @@ call-lines-requires c κs =
     (calls-room (s .args .counts .now) (s .pre .1 .0) _ n _ (s .pre .0), (s .pre .1 .1, calls-most (s .args .counts .now) (s .pre .1 .0) _ n))
 
 open-total-requires : tie.Need-open-total-requires
-open-total-requires c κs = search needs
+open-total-requires c κs = search
 
 total-line-requires : tie.Need-total-line-requires
 total-line-requires c κs =

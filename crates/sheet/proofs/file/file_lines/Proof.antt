@@ -27,10 +27,10 @@ fresh-lines-requires c κs =
     (made .before .before .before .pre, rw (made .fresh .ensures) (fresh-marked _ (filled marksLength 0 .size)))
 
 same-length : tie.Need-same-length
-same-length c = search needs
+same-length c = search
 
 returns : tie.Need-returns
-returns c = search needs
+returns c = search
 
 pub file-lines-spec : {M : Type 1} → statement M
 file-lines-spec =

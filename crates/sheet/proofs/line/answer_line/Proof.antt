@@ -25,10 +25,10 @@ enum-known-answer-2 : tie.Need-enum-known-answer-2
 enum-known-answer-2 c = search needs
 
 refusal-line-requires : tie.Need-refusal-line-requires
-refusal-line-requires c κs = search needs
+refusal-line-requires c κs = search
 
 same-length : tie.Need-same-length
-same-length c = search needs
+same-length c = search
 
 returns : tie.Need-returns
 returns c =
@@ -40,7 +40,7 @@ returns c =
     acceptance-appended (s .args .command) (known .answer .given .1) (s .pre .1) (w .wide .ensures) (kind .kind-of .ensures) (line .accepted-line .ensures)
 
 same-length-2 : tie.Need-same-length-2
-same-length-2 c = search needs
+same-length-2 c = search
 
 returns-2 : tie.Need-returns-2
 returns-2 c =

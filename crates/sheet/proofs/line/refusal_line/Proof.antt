@@ -16,7 +16,7 @@ refused-line-requires c κs =
     refusal-asks (n .before .wide .ensures) (n .wide2 .ensures) (n .before .before .before .pre)
 
 same-length : tie.Need-same-length
-same-length c = search needs
+same-length c = search
 
 returns : tie.Need-returns
 returns c =

@@ -34,7 +34,7 @@ array-read-record-of : tie.Need-array-read-record-of Inv-loop μ-loop
 array-read-record-of c = search needs
 
 record-of-requires : tie.Need-record-of-requires Inv-loop μ-loop
-record-of-requires c κs = search needs
+record-of-requires c κs = search
 
 mul-t15 : tie.Need-mul-t15 Inv-loop μ-loop
 mul-t15 c = search needs

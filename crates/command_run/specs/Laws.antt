@@ -1,0 +1,3 @@
+-- The theorems over the definitions.
+pub mod Lists
+pub mod Store

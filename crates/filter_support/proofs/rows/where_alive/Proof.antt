@@ -1,0 +1,13 @@
+-- Each branch is a case of the definition.
+use borrow.Author.Tests.{eq-eqb, ne-eqb}
+use Rattle.filter_support.proofs.rows.where_alive.Statement.{statement}
+use Rattle.filter_support.proofs.rows.where_alive.Tie as tie
+
+returns : tie.Need-returns
+returns c = simp (eq-eqb _ 255 (c .if1 .taken))
+
+returns-2 : tie.Need-returns-2
+returns-2 c = simp (ne-eqb _ 255 (c .if1 .left))
+
+pub where-alive-spec : {M : Type 1} → statement M
+where-alive-spec = tie.close (tie.spec returns returns-2)
