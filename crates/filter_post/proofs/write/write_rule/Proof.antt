@@ -14,7 +14,7 @@ copy-scope-requires : tie.Need-copy-scope-requires
 copy-scope-requires c κs = search
 
 copy-rows-requires : tie.Need-copy-rows-requires
-copy-rows-requires c κs = search
+copy-rows-requires c κs = search needs
 
 same-length : tie.Need-same-length
 same-length c = search

@@ -24,7 +24,7 @@ element-copy-out-without : tie.Need-element-copy-out-without Inv-loop μ-loop
 element-copy-out-without c = search needs
 
 without-requires : tie.Need-without-requires Inv-loop μ-loop
-without-requires c κs = search
+without-requires c κs = search needs
 
 mul-on : tie.Need-mul-on Inv-loop μ-loop
 mul-on c = search needs

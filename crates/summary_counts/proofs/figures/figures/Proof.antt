@@ -5,7 +5,7 @@ use Rattle.summary_counts.proofs.figures.figures.Statement.{statement}
 use Rattle.summary_counts.proofs.figures.figures.Tie as tie
 
 open-count-requires : tie.Need-open-count-requires
-open-count-requires c κs = search
+open-count-requires c κs = search needs
 
 rest-requires : tie.Need-rest-requires
 rest-requires c κs = search needs
