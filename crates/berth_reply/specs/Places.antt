@@ -1,5 +1,5 @@
 -- The place of a row's four bytes from the number of them: the question hands back four or none. Assumes nothing.
-use Prim.Native.Nat.{ℕ, zero, suc, _+_, _*_}
+use Prim.Native.Nat.{ℕ, zero, suc}
 use lib.ListN.{length}
 use Rattle.berth_reply.specs.declared.PlaceReply.{PlaceReply}
 use Rattle.layout.specs.Places.{rowStart}

@@ -2,7 +2,7 @@
 -- the first that holds is that of SCOPE 4.3 (Laws/Fields).
 use mathlib.Core.Bool.{Bool, _||_}
 use mathlib.Core.List.{List, [], _∷_}
-use Prim.Native.Nat.{ℕ, _+_, _*_, _%_, min}
+use Prim.Native.Nat.{ℕ, _%_, min}
 use lib.ListN.{getD}
 use lib.Dec.{eqb, ltb, leb}
 use Rattle.layout.specs.declared.value.RuleData.{RuleData}

@@ -1,7 +1,7 @@
 -- THE STARRED BOARDS FOLLOW FROM THE DEFINITIONS: one computation over the list of them, and the filter's law. S and R are counted on the calls of the board alone,
 -- where a count over all the slots of the memory would take most of the time of the crate's check. Assumes nothing.
 use mathlib.Core.Path.{_≡_, refl, ap, _∙_}
-use mathlib.Core.Bool.{Bool, true, false, _&&_, cond}
+use mathlib.Core.Bool.{Bool, false, _&&_, cond}
 use mathlib.Core.List.{List, [], _∷_, map}
 use Prim.Native.Nat.{ℕ, _+_, _-_, _*_, _/_, _%_, min, _≤_, _<_}
 use native.Mathlib.Nat.{add-zero}

@@ -14,7 +14,7 @@ use Rattle.model.specs.declared.command.Command.{Command}
 use Rattle.model.specs.declared.command.Command.the-variants as kind
 use Rattle.model.specs.Board.{Board, slotsOn, OnBoard, Passing, Viable, Shape}
 use Rattle.model.specs.Records.{Struck}
-use Rattle.model.specs.Changes.{Weaker, Seeds, CauseIs, OwnSlot, ClosedFor, Smallest}
+use Rattle.model.specs.Changes.{Weaker, Seeds, CauseIs, OwnSlot, Smallest}
 use Rattle.model.specs.Ledger.{Ledger, LedgerShape, withRule, cancelCall, effect}
 use Rattle.model.specs.Report.{slotCount, struck?, open?, reopenedBetween, struckIn, struckBeside, TouchedFrom, RetractTouched, CancelTouched, ReportsOwn, Reports}
 use Rattle.model.specs.Representation.{Stored, Represents}
