@@ -5,15 +5,14 @@ use masks::columns::wide;
 ghost use mathlib.Core.Path.{_≡_};
 ghost use Prim.Native.Nat.{_<_};
 ghost use lib.ListN.{length};
-ghost use Rattle.plan_model.specs.Plans.{planSize, rulesIn};
-ghost use Rattle.plan_fit.specs.Parts.{scopeParts};
+ghost use Rattle.plan_model.specs.Plans.{planSize};
 ghost use Rattle.plan_fit.specs.Words.{columnCall, ColumnCalls, IsByte, maskByte, planByte, IsWord};
 
 // The call of column k of rule p; 255 where the column does not count, since it is none of the rule's or its call is cancelled.
 fn column_call(arity: &[u8; 64], scope: &[u8; 256], slots: &[u8], p: usize, k: usize) -> u8
     requires { ⌜ p < 64 ⌝ }
     requires { ⌜ k < 4 ⌝ }
-    ensures { λ r. ⌜ r ≡ columnCall (rulesIn (scopeParts (arity .entry) (scope .entry) (slots .entry))) p k ⌝ }
+    ensures { λ r. ⌜ r ≡ columnCall (now (arity .entry)) (now (scope .entry)) (now (slots .entry)) p k ⌝ }
 {
     let call = scope[4 * p + k] % 32;
     if cap(arity[p], 4) <= k {
@@ -25,7 +24,7 @@ fn column_call(arity: &[u8; 64], scope: &[u8; 256], slots: &[u8], p: usize, k: u
 // The same for each column.
 pub fn column_calls(arity: &[u8; 64], scope: &[u8; 256], slots: &[u8], p: usize) -> [u8; 4]
     requires { ⌜ p < 64 ⌝ }
-    ensures { λ r. ⌜ ColumnCalls (rulesIn (scopeParts (arity .entry) (scope .entry) (slots .entry))) p r ⌝ }
+    ensures { λ r. ⌜ ColumnCalls (now (arity .entry)) (now (scope .entry)) (now (slots .entry)) p r ⌝ }
 {
     [
         column_call(arity, scope, slots, p, 0),

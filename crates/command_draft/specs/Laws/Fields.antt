@@ -28,12 +28,6 @@ use Rattle.layout.specs.Places.{cancelled?}
 use Rattle.model.specs.Laws.Search.{some-same, every-same}
 use Rattle.tables.specs.Laws.Facts.{lt-or-le}
 
--- within a list the default does not count
-pub any-default : (d e : ℕ) (xs : List ℕ) (k : ℕ) → k < length xs → getD xs k d ≡ getD xs k e
-any-default d e [] k h = absurd (omega arith)
-any-default d e (x ∷ xs) zero h = refl
-any-default d e (x ∷ xs) (suc k) h = any-default d e xs k (omega arith)
-
 pub arity-most : (n : ℕ) → badArity? n ≡ false → n ≤ 4
 arity-most n e = ltb-false 4 n (or-false (ltb n 1) (ltb 4 n) e .1)
 

@@ -3,28 +3,19 @@ use mathlib.Core.Path.{_≡_, refl, ap, _∙_}
 use mathlib.Core.Bool.{Bool, not, _||_, cond}
 use mathlib.Core.List.{List}
 use mathlib.Core.Option.{Option, none, some}
-use Prim.Native.Nat.{ℕ, zero, suc, _<_}
+use Prim.Native.Nat.{ℕ, _<_}
 use native.Mathlib.Omega.{arith}
 use lib.ListN.{length, getD}
 use lib.Dec.{eqb}
 use Rattle.layout.specs.Memory.{State}
 use Rattle.model.specs.Board.{Rule, slotsOn, callAt}
-use Rattle.model.specs.Tests.{some?, every?, first}
+use Rattle.model.specs.Tests.{some?, every?}
 use Rattle.model.specs.Ledger.{Ledger, LedgerShape}
 use Rattle.model.specs.Representation.{ruleOr, ruleAt, Represents}
-use Rattle.model.specs.Laws.Search.{some-same, every-same}
+use Rattle.model.specs.Laws.Search.{some-same, every-same, first-same}
 use Rattle.model.specs.Laws.Cancelled.{cancelled-held}
 use Rattle.model.specs.Laws.Questions.{slots-held, columns-held, rows-held}
 use Rattle.plan_model.specs.Plans.{RulesRead, rulesOf, rulesIn, slotIn, fits?, fitted?, binds?, breaks?, lowestBroken, slotsOnIn}
-
--- tests that agree below n have the same first number
-first-same : (n : ℕ) (f g : ℕ → Bool) → ((i : ℕ) → i < n → f i ≡ g i) → first n f ≡ first n g
-first-same zero f g same = refl
-first-same (suc n) f g same =
-    let e = some-same n f g (λ i h. same i (omega arith)) in
-    let d = first-same n f g (λ i h. same i (omega arith)) in
-    let x = same n (omega arith) in
-    rw (e, d, x) refl
 
 -- ONE RULE READ ALIKE, of two readings
 pub record SameRead (R Q : RulesRead) (p : ℕ) : Type 0 where

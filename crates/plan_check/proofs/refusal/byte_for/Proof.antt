@@ -1,0 +1,20 @@
+use borrow.Author.Needs.{needs}
+use Rattle.plan_check.proofs.refusal.byte_for.Statement.{statement}
+use Rattle.plan_check.proofs.refusal.byte_for.Tie as tie
+use Rattle.plan_check.proofs.refusal.byte_for.Reads as reads
+use Rattle.plan_check.proofs.refusal.byte_for.Lts as lts
+
+-- src/refusal.rt:20:25
+shared-slice-read-result : tie.Need-shared-slice-read-result
+shared-slice-read-result c = search needs
+
+-- src/refusal.rt:17:1
+returns : tie.Need-returns
+returns c = ?
+
+-- src/refusal.rt:17:1
+returns-2 : tie.Need-returns-2
+returns-2 c = ?
+
+pub byte-for-spec : {M : Type 1} → statement M
+byte-for-spec = tie.close (tie.spec shared-slice-read-result returns returns-2)

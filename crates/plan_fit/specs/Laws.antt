@@ -1,0 +1,3 @@
+-- The theorems over the definitions.
+pub mod Words
+pub mod Fits
