@@ -1,6 +1,7 @@
 -- WHAT THE QUESTION'S FUNCTION SHOWS of its answer, to meet its promise: where the number n of its checks is not 0 the answer is that refusal, and where n is 0 the buffers
 -- and the plan have their lengths, and the answer is the lowest broken rule. Assumes nothing.
 use mathlib.Core.Path.{_≡_, refl, sym, subst, _∙_}
+use mathlib.Core.Bool.{Bool, true, false}
 use mathlib.Core.List.{List}
 use mathlib.Core.Logic.{_≢_}
 use Prim.Native.Nat.{ℕ, _<_, _≤_}
@@ -14,9 +15,12 @@ use Rattle.model.specs.Refusals.{firstOf}
 use Rattle.model.specs.Numbers as refused
 use Rattle.model.specs.Laws.Refusals.{none-holds, refused-by}
 use Rattle.model.specs.Laws.Shapes.{lent-sizes}
+use Rattle.model.specs.Laws.Tests.{→T}
+use Rattle.model.specs.Laws.Search.{NoneBelow, some-found, none-found}
+use Rattle.model.specs.Laws.Questions.{first-found, first-none}
 use Rattle.plan_model.specs.declared.answer.PlanCheck.the-variants as plan
-use Rattle.plan_model.specs.Plans.{planSize, rulesIn, lowestBroken}
-use Rattle.plan_model.specs.Check.{planChecks, planBy, PlanPromise}
+use Rattle.plan_model.specs.Plans.{planSize, slotIn, RulesRead, rulesIn, breaks?, lowestBroken}
+use Rattle.plan_model.specs.Check.{wrongByte?, wrongPlan?, planChecks, planBy, PlanPromise}
 use Rattle.plan_model.specs.Laws.Check.{plan-promise}
 
 module _ (s : State) (bytes : List ℕ) {n : ℕ} (e : n ≡ firstOf (planChecks s bytes)) where
@@ -40,3 +44,26 @@ module _ (s : State) (bytes : List ℕ) {n : ℕ} (e : n ≡ firstOf (planChecks
 
     pub plan-kept : 64 ≤ p → PlanPromise s bytes plan.Kept
     plan-kept h = rw (le-ltb p 64 h) at answered
+
+-- THE LOOP OVER THE BYTES: one that is wrong, or none
+module _ (held : ℕ → ℕ) (bytes : List ℕ) where
+  abbrev pub wrongAt : ℕ → Bool
+  wrongAt c = wrongByte? (held c) (slotIn bytes c)
+
+  pub wrong-found : {c : ℕ} → NoneBelow wrongAt c → c < planSize → true ≡ wrongAt c → true ≡ wrongPlan? held bytes
+  unfolding wrongPlan?
+  wrong-found none h e = some-found none planSize h (sym e)
+
+  pub wrong-none : {c : ℕ} → NoneBelow wrongAt c → c ≤ planSize → planSize ≤ c → false ≡ wrongPlan? held bytes
+  unfolding wrongPlan?
+  wrong-none none h k = none-found none planSize h k
+
+-- THE LOOP OVER THE RULES: the first that is broken, or none
+module _ (R : RulesRead) (bytes : List ℕ) {p : ℕ} (none : NoneBelow (breaks? R bytes) p) where
+  pub lowest-found : p < 64 → true ≡ breaks? R bytes p → p ≡ lowestBroken R bytes
+  unfolding lowestBroken
+  lowest-found h e = sym (first-found 64 (breaks? R bytes) p h (→T (breaks? R bytes p) (sym e)) (none .none))
+
+  pub lowest-none : p ≤ 64 → 64 ≤ p → 64 ≡ lowestBroken R bytes
+  unfolding lowestBroken
+  lowest-none h k = let all : p ≡ 64 = omega arith in sym (first-none 64 (breaks? R bytes) (rw all at (none .none)))

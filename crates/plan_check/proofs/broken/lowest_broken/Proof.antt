@@ -1,3 +1,13 @@
+-- None of the rules before p is broken.
+use mathlib.Core.Path.{sym, _∙_}
+use mathlib.Core.List.{[]}
+use Prim.Native.Nat.{_-_, _≤_}
+use native.Mathlib.Omega.{arith}
+use Rattle.layout.specs.Memory.{stateOfParts}
+use Rattle.model.specs.Laws.Search.{NoneBelow, none-start, none-more}
+use Rattle.plan_model.specs.Plans.{rulesIn, breaks?}
+use Rattle.plan_check.specs.Laws.Answers.{lowest-found, lowest-none}
+use borrow.Author.Needs.{needs}
 use Rattle.plan_check.proofs.broken.lowest_broken.Statement.{statement}
 use Rattle.plan_check.proofs.broken.lowest_broken.Tie as tie
 use Rattle.plan_check.proofs.broken.lowest_broken.Reads as reads
@@ -5,38 +15,49 @@ use Rattle.plan_check.proofs.broken.lowest_broken.Lts as lts
 use Rattle.plan_fit.proofs.breaks.Reads as breaks-reads
 
 abbrev Inv-loop : tie.InvT-loop
-Inv-loop arity scope lengths rows slots plan p₀ p = ?
+Inv-loop arity scope lengths rows slots plan p₀ p = (p ≤ 64) × NoneBelow (breaks? (rulesIn (stateOfParts [] arity scope lengths rows [] slots)) plan) p
 
 abbrev μ-loop : tie.MeasureT-loop
-μ-loop arity scope lengths rows slots plan p₀ p = ?
+μ-loop arity scope lengths rows slots plan p₀ p = 64 - p
 
 -- src/broken.rt:24:5
 loop-holds : tie.Need-loop-holds Inv-loop μ-loop
-loop-holds c = ?
+loop-holds c = (omega arith, none-start)
 
 -- src/broken.rt:25:12
 breaks-requires : tie.Need-breaks-requires Inv-loop μ-loop
-breaks-requires c κs = ?
+breaks-requires c κs = search needs
 
 -- src/broken.rt:26:13
 returns : tie.Need-returns Inv-loop μ-loop
-returns c = ?
+returns c =
+    let head = c .before .before .before in
+    let a = head .before .before .before .before .args in
+    lowest-found (rulesIn (stateOfParts [] (a .arity .now) (a .scope .now) (a .lengths .now) (a .rows .now) [] (a .slots .now))) (a .plan .now)
+    (head .loop .inv .1) (omega arith) (sym (c .if1 .taken) ∙ c .before .breaks .ensures)
 
 -- src/broken.rt:28:9
 add-p : tie.Need-add-p Inv-loop μ-loop
-add-p c = ?
+add-p c = search needs
 
 -- src/broken.rt:24:5
 loop-less : tie.Need-loop-less Inv-loop μ-loop
-loop-less c = ?
+loop-less c = search needs
 
 -- src/broken.rt:24:5
 loop-again : tie.Need-loop-again Inv-loop μ-loop
-loop-again c = ?
+loop-again c =
+    let head = c .before .before .before in (
+      omega arith,
+      none-more (head .loop .inv .1) (sym (c .before .breaks .ensures) ∙ c .if1 .left),
+    )
 
 -- src/broken.rt:10:1
 returns-2 : tie.Need-returns-2 Inv-loop μ-loop
-returns-2 c = ?
+returns-2 c =
+    let a = c .before .before .before .before .before .args in
+    lowest-none (rulesIn (stateOfParts [] (a .arity .now) (a .scope .now) (a .lengths .now) (a .rows .now) [] (a .slots .now))) (a .plan .now)
+    (c .before .loop .inv .1) (omega arith) (omega arith)
 
 pub lowest-broken-spec : {M : Type 1} → statement M
 lowest-broken-spec =

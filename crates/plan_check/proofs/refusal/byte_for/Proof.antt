@@ -1,3 +1,7 @@
+-- A byte of the plan, or 255 past its end.
+use mathlib.Core.Path.{sym}
+use lib.ListN.{List·getD-eq-default}
+use Rattle.tables.specs.Laws.Facts.{any-default}
 use borrow.Author.Needs.{needs}
 use Rattle.plan_check.proofs.refusal.byte_for.Statement.{statement}
 use Rattle.plan_check.proofs.refusal.byte_for.Tie as tie
@@ -10,11 +14,11 @@ shared-slice-read-result c = search needs
 
 -- src/refusal.rt:17:1
 returns : tie.Need-returns
-returns c = ?
+returns c = any-default 0 255 (c .before .before .args .plan .now) _ (c .before .if1 .taken)
 
 -- src/refusal.rt:17:1
 returns-2 : tie.Need-returns-2
-returns-2 c = ?
+returns-2 c = sym (List·getD-eq-default (c .before .args .plan .now) 255 (c .if1 .left))
 
 pub byte-for-spec : {M : Type 1} → statement M
 byte-for-spec = tie.close (tie.spec shared-slice-read-result returns returns-2)

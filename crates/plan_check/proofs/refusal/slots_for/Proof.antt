@@ -1,3 +1,5 @@
+-- None where the call is cancelled, else its count.
+use mathlib.Core.Path.{refl}
 use borrow.Author.Needs.{needs}
 use Rattle.plan_check.proofs.refusal.slots_for.Statement.{statement}
 use Rattle.plan_check.proofs.refusal.slots_for.Tie as tie
@@ -19,11 +21,11 @@ element-copy-out-result c = search needs
 
 -- src/refusal.rt:24:1
 returns : tie.Need-returns
-returns c = ?
+returns c = rw (← c .before .is-cancelled .ensures, c .if1 .taken) refl
 
 -- src/refusal.rt:24:1
 returns-2 : tie.Need-returns-2
-returns-2 c = ?
+returns-2 c = rw (← c .before .before .is-cancelled .ensures, c .before .if1 .left) refl
 
 pub slots-for-spec : {M : Type 1} → statement M
 slots-for-spec =
