@@ -20,7 +20,7 @@ use Rattle.model.specs.Laws.Tests.{and→, →and, or→, →or, →T, T→, no
 use Rattle.model.specs.Laws.Search.{some-same}
 use Rattle.plan_model.specs.Plans.{planSize, RulesRead, rulesIn, slotIn, fits?, fitted?, binds?, breaks?}
 use Rattle.plan_fit.specs.Words.{columnCall, ColumnCalls, maskByte, planByte, IsWord, rowMatches?}
-use Rattle.plan_fit.specs.Laws.Words.{wordOf, Bytes, kept, byte-small, same-bytes, same-word, and-word}
+use Rattle.plan_fit.specs.Laws.Words.{wordOf, Bytes, maskedBy, byte-small, same-bytes, same-word, and-word}
 
 -- THE CALL OF A COLUMN, as the code finds it: past the columns, of a cancelled call, or one that counts
 module _ (arity scope slots : List ℕ) (p k : ℕ) {n : ℕ} (columns : n ≡ columnsOf arity p) where
@@ -106,7 +106,7 @@ module _ (s : State) (plan : List ℕ) (size : length plan ≡ planSize) (p : �
     planned-small : Bytes planned
     planned-small k h = subst (λ (n : ℕ). n < 256) (planned-is k h) (wanted-is .small k h)
 
-    row-word : (w : ℕ) → bitAnd (wordAt (s .rows) (rowStart p w)) mask ≡ wordOf (kept (R .slot p w) counts?)
+    row-word : (w : ℕ) → bitAnd (wordAt (s .rows) (rowStart p w)) mask ≡ wordOf (maskedBy (R .slot p w) counts?)
     row-word w =
         let first : getD (s .rows) (rowStart p w + 0) 0 ≡ getD (s .rows) (rowStart p w) 0 = ap (λ (j : ℕ). getD (s .rows) j 0) (add-zero (rowStart p w)) in
         let read : wordAt (s .rows) (rowStart p w) ≡ wordOf (R .slot p w) = omega arith in
@@ -116,7 +116,7 @@ module _ (s : State) (plan : List ℕ) (size : length plan ≡ planSize) (p : �
     match→ : (w : ℕ) → T (rowMatches? (s .rows) p mask wanted w) → T (fits? R plan p w)
     unfolding fits?
     match→ w t =
-        let same = same-bytes (kept (R .slot p w) counts?) planned (kept-small w) planned-small
+        let same = same-bytes (maskedBy (R .slot p w) counts?) planned (masked-small w) planned-small
             (sym (row-word w) ∙ eqb→eq (bitAnd (wordAt (s .rows) (rowStart p w)) mask) wanted t ∙ wanted-word) in
         →every (R .columns p) (λ k. R .off (R .call p k) || eqb (R .slot p w k) (slotIn plan (R .call p k)))
         (λ k h.
@@ -128,8 +128,8 @@ module _ (s : State) (plan : List ℕ) (size : length plan ≡ planSize) (p : �
         (subst (λ (b : Bool). cond b (R .slot p w k) 0 ≡ cond b (slotIn plan (R .call p k)) 0) here (same k (omega arith)))))
         (true-or-false (R .off (R .call p k)))))
       where
-        kept-small : (w : ℕ) → Bytes (kept (R .slot p w) counts?)
-        kept-small w k h = go (counts? k)
+        masked-small : (w : ℕ) → Bytes (maskedBy (R .slot p w) counts?)
+        masked-small w k h = go (counts? k)
           where
             go : (b : Bool) → cond b (R .slot p w k) 0 < 256
             go true = bytes (rowStart p w + k)
@@ -139,9 +139,9 @@ module _ (s : State) (plan : List ℕ) (size : length plan ≡ planSize) (p : �
     unfolding fits?
     →match w t =
         →eqb (bitAnd (wordAt (s .rows) (rowStart p w)) mask) wanted
-        (row-word w ∙ same-word (kept (R .slot p w) counts?) planned (λ k h. at k (true-or-false (counts? k))) ∙ sym wanted-word)
+        (row-word w ∙ same-word (maskedBy (R .slot p w) counts?) planned (λ k h. at k (true-or-false (counts? k))) ∙ sym wanted-word)
       where
-        at : (k : ℕ) → (counts? k ≡ true) ⊎ (counts? k ≡ false) → kept (R .slot p w) counts? k ≡ planned k
+        at : (k : ℕ) → (counts? k ≡ true) ⊎ (counts? k ≡ false) → maskedBy (R .slot p w) counts? k ≡ planned k
         at k (inr e) = rw e refl
         at k (inl e) =
             let d = counts→ k (→T (counts? k) e) in

@@ -35,19 +35,19 @@ pub same-word : (d t : ℕ → ℕ) → SameBytes d t → wordOf d ≡ wordOf t
 same-word d t same = omega (arith, same 0 (omega arith), same 1 (omega arith), same 2 (omega arith), same 3 (omega arith))
 
 -- a whole byte of a mask keeps a byte, and an empty one clears it
-abbrev pub kept : (ℕ → ℕ) → (ℕ → Bool) → ℕ → ℕ
-kept d m k = cond (m k) (d k) 0
+abbrev pub maskedBy : (ℕ → ℕ) → (ℕ → Bool) → ℕ → ℕ
+maskedBy d m k = cond (m k) (d k) 0
 
-byte-kept : (b : Bool) (n : ℕ) → n < 256 → bitAnd n (cond b 255 0) ≡ cond b n 0
-byte-kept true n h = and-mask n 8 ∙ omega arith
-byte-kept false n h = and-zero-r n
+byte-masked : (b : Bool) (n : ℕ) → n < 256 → bitAnd n (cond b 255 0) ≡ cond b n 0
+byte-masked true n h = and-mask n 8 ∙ omega arith
+byte-masked false n h = and-zero-r n
 
 pub byte-small : (b : Bool) → cond b 255 0 < 256
 byte-small true = omega arith
 byte-small false = omega arith
 
 -- ONE AND FOR FOUR BYTES
-pub and-word : (d : ℕ → ℕ) (m : ℕ → Bool) → Bytes d → bitAnd (wordOf d) (wordOf (λ k. cond (m k) 255 0)) ≡ wordOf (kept d m)
+pub and-word : (d : ℕ → ℕ) (m : ℕ → Bool) → Bytes d → bitAnd (wordOf d) (wordOf (λ k. cond (m k) 255 0)) ≡ wordOf (maskedBy d m)
 and-word d m small = ap₂ bitAnd (nested d) (nested whole) ∙ split ∙ omega (arith, here 0 (omega arith), here 1 (omega arith), here 2 (omega arith), here 3 (omega arith))
   where
     whole : ℕ → ℕ
@@ -56,8 +56,8 @@ and-word d m small = ap₂ bitAnd (nested d) (nested whole) ∙ split ∙ omega 
     nested : (e : ℕ → ℕ) → wordOf e ≡ ((e 3 * 2 ^ 8 + e 2) * 2 ^ 8 + e 1) * 2 ^ 8 + e 0
     nested e = omega arith
 
-    here : (k : ℕ) → k < 4 → bitAnd (d k) (whole k) ≡ kept d m k
-    here k h = byte-kept (m k) (d k) (small k h)
+    here : (k : ℕ) → k < 4 → bitAnd (d k) (whole k) ≡ maskedBy d m k
+    here k h = byte-masked (m k) (d k) (small k h)
 
     split : bitAnd (((d 3 * 2 ^ 8 + d 2) * 2 ^ 8 + d 1) * 2 ^ 8 + d 0) (((whole 3 * 2 ^ 8 + whole 2) * 2 ^ 8 + whole 1) * 2 ^ 8 + whole 0)
         ≡ ((bitAnd (d 3) (whole 3) * 2 ^ 8 + bitAnd (d 2) (whole 2)) * 2 ^ 8 + bitAnd (d 1) (whole 1)) * 2 ^ 8 + bitAnd (d 0) (whole 0)
