@@ -5,9 +5,9 @@
  * the host holds a value, the names of two marks, four buffers and a summary table. It lends all of it to commands, which write it in place, and to questions
  * three of the buffers; the value they are handed as a copy. struct berth_board below holds all of it.
  *
- * Each function is proved to return, and to stay inside what it is lent, whatever the value, the names, the buffers, the table and the command's bytes hold.
- * What the host has to see to: the library is the header's (berth_header_fits), a pointer is not null and reaches as far as its length says, or as one value or
- * two names do, and what is lent to one call, value and names among it, does not overlap.
+ * Each function is proved to return, and to stay inside what it is lent, whatever the value, the names, the buffers, the table and the bytes of a command, a file
+ * or a plan hold. What the host has to see to: the library is the header's (berth_header_fits), a pointer is not null and reaches as far as its length says, or
+ * as one value or two names do, and what is lent to one call, value and names among it, does not overlap.
  *
  * A board takes 66,121 bytes, 43,008 of them the marks'; value and names, which are held beside the buffers, are 1,513. The library takes nothing from a heap. It
  * has no variables, so boards have nothing to do with each other: threads may work on different boards at once. A board is one thread's at a time, except that

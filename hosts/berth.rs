@@ -444,7 +444,7 @@ pub mod lent {
         pub slots: &'a [u8],
     }
 
-    // The value and the three slices, as the questions take them, before the question's own numbers.
+    // The value and the three slices, as the questions take them, before the question's own numbers or its plan.
     macro_rules! ask {
         ($question:ident, $memory:expr, $($number:expr),+) => {{
             look();
