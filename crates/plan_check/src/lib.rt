@@ -11,13 +11,7 @@ ghost use Rattle.layout.specs.Memory.{memory};
 ghost use Rattle.plan_model.specs.Check.{PlanPromise};
 
 // Whether the plan, 32 bytes with a slot for each call, keeps every rule in force.
-pub fn check_plan(
-    value: Value,
-    rows: &[u8],
-    killers: &[u8],
-    slots: &[u8],
-    plan: &[u8],
-) -> PlanCheck
+pub fn check_plan(value: Value, rows: &[u8], killers: &[u8], slots: &[u8], plan: &[u8]) -> PlanCheck
     ensures { λ r. ⌜ PlanPromise (memory value (rows .entry) (killers .entry) (slots .entry)) (now (plan .entry)) r ⌝ }
 {
     let counts = value.heads.counts;

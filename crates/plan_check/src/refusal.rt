@@ -54,18 +54,14 @@ fn wrong_plan(counts: &[u8; 32], slots: &[u8], plan: &[u8]) -> bool
 }
 
 // The number of the first check that holds, or 0.
-pub fn plan_refusal(
-    counts: &[u8; 32],
-    rows: &[u8],
-    killers: &[u8],
-    slots: &[u8],
-    plan: &[u8],
-) -> u8
+pub fn plan_refusal(counts: &[u8; 32], rows: &[u8], killers: &[u8], slots: &[u8], plan: &[u8]) -> u8
     ensures { λ r. ⌜ r
         ≡ firstOf (planChecks (checkParts (counts .entry) (rows .entry) (killers .entry) (slots .entry)) (now (plan .entry))) ⌝ }
 {
+    let another_length = plan.len() != 32;
+    let no_board = counts[0] == 0;
     let n = or_refuse(0, bad_lengths(rows, killers, slots), BUFFER_LENGTH);
-    let n = or_refuse(n, plan.len() != 32, PLAN_LENGTH);
-    let n = or_refuse(n, counts[0] == 0, NO_BOARD);
+    let n = or_refuse(n, another_length, PLAN_LENGTH);
+    let n = or_refuse(n, no_board, NO_BOARD);
     or_refuse(n, wrong_plan(counts, slots, plan), BAD_PLAN_BYTE)
 }

@@ -5,7 +5,7 @@ use lib.ListN.{length, replicate}
 use Rattle.model.specs.Ledger.{Ledger, lengths}
 use Rattle.model.specs.Promise.{valuesAt}
 use Rattle.model.specs.Refusals.{firstOf}
-use Rattle.model.specs.Samples.{boardBytes, headBytes, rowBytes, postBytes, cancelBytes, ledgerOf, p2Before, draftOfTwo}
+use Rattle.model.specs.Samples.{boardBytes, headBytes, rowBytes, postBytes, cancelBytes, p2Before, draftOfTwo}
 use Rattle.plan_model.specs.Plans.{planSize, rulesOf, lowestBroken}
 use Rattle.plan_model.specs.Check.{planConditions, brokenValue}
 

@@ -4,25 +4,18 @@ use Rattle.layout.specs.Memory.{State, stateOf}
 use Rattle.plan_check.specs.Laws.Answers.{plan-refused, rows-size, plan-size, plan-broken, plan-kept}
 use Rattle.plan_check.proofs.check_plan.Statement.{statement}
 use Rattle.plan_check.proofs.check_plan.Tie as tie
-use Rattle.plan_check.proofs.check_plan.Reads as reads
-use Rattle.plan_check.proofs.check_plan.Lts as lts
-use Rattle.plan_check.proofs.broken.lowest_broken.Reads as lowest-broken-reads
-use Rattle.plan_check.proofs.refusal.plan_refusal.Reads as plan-refusal-reads
 
 abbrev state : tie.Start → State
 state c = stateOf (c .args .value) (c .args .rows .now) (c .args .killers .now) (c .args .slots .now)
 
--- src/lib.rt:27:9
 plan-refusal-requires : tie.Need-plan-refusal-requires
 plan-refusal-requires c κs = search needs
 
--- src/lib.rt:29:9
 returns : tie.Need-returns
 returns c =
     let start = c .before .before .before .before .before .before .before .before .before .before .before in
     plan-refused (state start) (start .args .plan .now) (c .before .plan-refusal .ensures) (c .if1 .taken)
 
--- src/lib.rt:31:9
 lowest-broken-requires : tie.Need-lowest-broken-requires
 lowest-broken-requires c κs =
     let start = c .before .before .before .before .before .before .before .before .before .before .before .before .before .before in
@@ -30,18 +23,15 @@ lowest-broken-requires c κs =
     let z = c .before .before .before .if1 .left in
     (rows-size (state start) (start .args .plan .now) e z, plan-size (state start) (start .args .plan .now) e z)
 
--- src/lib.rt:33:27
 cast-t18 : tie.Need-cast-t18
 cast-t18 c = search needs
 
--- src/lib.rt:14:1
 returns-2 : tie.Need-returns-2
 returns-2 c =
     let start = c .before .before .before .before .before .before .before .before .before .before .before .before .before .before .before .before in
     let e = c .before .before .before .before .before .before .plan-refusal .ensures in
     plan-broken (state start) (start .args .plan .now) e (c .before .before .before .before .before .if1 .left) (c .before .lowest-broken .ensures) (c .if2 .taken)
 
--- src/lib.rt:14:1
 returns-3 : tie.Need-returns-3
 returns-3 c =
     let start = c .before .before .before .before .before .before .before .before .before .before .before .before .before .before .before .before in

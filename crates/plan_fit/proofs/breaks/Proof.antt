@@ -6,37 +6,25 @@ use Rattle.plan_fit.specs.Laws.Fits.{unbound, broken-unless}
 use borrow.Author.Needs.{needs}
 use Rattle.plan_fit.proofs.breaks.Statement.{statement}
 use Rattle.plan_fit.proofs.breaks.Tie as tie
-use Rattle.plan_fit.proofs.breaks.Reads as reads
-use Rattle.plan_fit.proofs.breaks.Lts as lts
-use Rattle.plan_fit.proofs.columns.column_calls.Reads as column-calls-reads
-use Rattle.plan_fit.proofs.columns.column_mask.Reads as column-mask-reads
-use Rattle.plan_fit.proofs.columns.plan_word.Reads as plan-word-reads
-use Rattle.plan_fit.proofs.rows.has_row.Reads as has-row-reads
 
--- src/lib.rt:33:9
 column-calls-requires : tie.Need-column-calls-requires
 column-calls-requires c κs = search needs
 
--- src/lib.rt:34:9
 column-mask-requires : tie.Need-column-mask-requires
 column-mask-requires c κs = search needs
 
--- src/lib.rt:36:9
 returns : tie.Need-returns
 returns c =
     let start = c .before .before .before .before .before .before in
     unbound (stateOfParts [] (start .args .arity .now) (start .args .scope .now) (start .args .lengths .now) (start .args .rows .now) [] (start .args .slots .now)) _
     (start .pre .1 .0) _ (c .before .before .column-calls .ensures) (c .before .column-mask .ensures) (c .if1 .taken)
 
--- src/lib.rt:38:38
 plan-word-requires : tie.Need-plan-word-requires
 plan-word-requires c κs = search needs
 
--- src/lib.rt:38:6
 has-row-requires : tie.Need-has-row-requires
 has-row-requires c κs = search needs
 
--- src/lib.rt:18:1
 returns-2 : tie.Need-returns-2
 returns-2 c =
     let start = c .before .before .before .before .before .before .before .before in

@@ -3,7 +3,7 @@ use mathlib.Core.Path.{_≡_, refl, sym, ap, ap₂, subst, _∙_}
 use mathlib.Core.Bool.{Bool, true, false, not, _&&_, _||_, cond}
 use mathlib.Core.List.{List}
 use mathlib.Core.Logic.{_⊎_, inl, inr, ⊎-elim, _≢_}
-use Prim.Native.Nat.{ℕ, _+_, _*_, _<_, _≤_, min}
+use Prim.Native.Nat.{ℕ, _+_, _<_, _≤_}
 use native.Mathlib.Nat.{add-zero}
 use native.Mathlib.Omega.{arith}
 use lib.ListN.{length, getD}
@@ -14,9 +14,8 @@ use Rattle.tables.specs.Laws.Facts.{true-false, true-or-false, any-default}
 use Rattle.layout.specs.Places.{columnsOf, callOf, cancelled?, rowStart}
 use Rattle.layout.specs.Memory.{State}
 use Rattle.masks.specs.Columns.{wordAt}
-use Rattle.masks.specs.Laws.Columns.{four}
-use Rattle.model.specs.Tests.{some?, every?}
-use Rattle.model.specs.Laws.Tests.{and→, →and, or→, →or, →T, T→, not→, same-test, →eqb, none-passes, some→, every→, →every}
+use Rattle.model.specs.Tests.{some?}
+use Rattle.model.specs.Laws.Tests.{and→, or→, →or, →T, T→, not→, same-test, →eqb, none-passes, some→, every→, →every}
 use Rattle.model.specs.Laws.Search.{some-same}
 use Rattle.plan_model.specs.Plans.{planSize, RulesRead, rulesIn, slotIn, fits?, fitted?, binds?, breaks?}
 use Rattle.plan_fit.specs.Words.{columnCall, ColumnCalls, maskByte, planByte, IsWord, rowMatches?}
@@ -117,7 +116,7 @@ module _ (s : State) (plan : List ℕ) (size : length plan ≡ planSize) (p : �
     unfolding fits?
     match→ w t =
         let same = same-bytes (maskedBy (R .slot p w) counts?) planned (masked-small w) planned-small
-            (sym (row-word w) ∙ eqb→eq (bitAnd (wordAt (s .rows) (rowStart p w)) mask) wanted t ∙ wanted-word) in
+        (sym (row-word w) ∙ eqb→eq (bitAnd (wordAt (s .rows) (rowStart p w)) mask) wanted t ∙ wanted-word) in
         →every (R .columns p) (λ k. R .off (R .call p k) || eqb (R .slot p w k) (slotIn plan (R .call p k)))
         (λ k h.
         →or (R .off (R .call p k)) (eqb (R .slot p w k) (slotIn plan (R .call p k)))
@@ -155,5 +154,5 @@ module _ (s : State) (plan : List ℕ) (size : length plan ≡ planSize) (p : �
     unfolding breaks? fitted?
     broken-unless n e =
         let same = some-same (R .rows p) (rowMatches? (s .rows) p mask wanted) (fits? R plan p)
-            (λ w h. same-test (rowMatches? (s .rows) p mask wanted w) (fits? R plan p w) (match→ w) (→match w)) in
+        (λ w h. same-test (rowMatches? (s .rows) p mask wanted w) (fits? R plan p w) (match→ w) (→match w)) in
         rw (some-mask n) (ap not (e ∙ same))

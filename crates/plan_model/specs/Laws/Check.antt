@@ -1,12 +1,12 @@
 -- THE EQUATION SAYS WHAT THE ANSWER MEANS, on a state that is a ledger's. Assumes nothing.
 use mathlib.Core.Path.{_≡_, refl, sym, ap, subst, _∙_}
-use mathlib.Core.Bool.{Bool, true, false, not, cond}
+use mathlib.Core.Bool.{Bool, true, false, cond}
 use mathlib.Core.List.{List, [], _∷_}
 use mathlib.Core.Logic.{_⊎_, inl, inr}
 use Prim.Native.Nat.{ℕ, zero, suc, _<_}
 use native.Mathlib.Omega.{arith}
-use lib.ListN.{length, getD}
-use lib.Dec.{T, eqb, ltb}
+use lib.ListN.{length}
+use lib.Dec.{eqb, ltb}
 use borrow.Author.Tests.{lt-ltb, leb-false, eqb-true, ne-eqb, not-false}
 use Rattle.tables.specs.Laws.Facts.{true-or-false}
 use Rattle.layout.specs.Memory.{State, lentOf}
@@ -23,7 +23,6 @@ use Rattle.model.specs.Laws.Theory.{numbered, live-on}
 use Rattle.model.specs.Laws.Refusals.{none-holds}
 use Rattle.model.specs.Laws.Heads.{no-calls}
 use Rattle.model.specs.Laws.Questions.{first-some, first-none, first-lowest}
-use Rattle.plan_model.specs.declared.answer.PlanCheck.{PlanCheck}
 use Rattle.plan_model.specs.declared.answer.PlanCheck.the-variants as plan
 use Rattle.plan_model.specs.Plans.{planSize, slotIn, slotsOnIn, rulesOf, rulesIn, breaks?, lowestBroken}
 use Rattle.plan_model.specs.Check.{wrongByte?, wrongPlan?, planConditions, planChecks, planNumber, planValues, brokenAnswer, brokenValue, planBy, planAnswer, PlanMeans, PlanPromise}
@@ -87,7 +86,7 @@ module _ (B : Board) (shape : Shape B) (bytes : List ℕ) (right : wrongPlan? (s
       go (inl e) =
           let x = first-some 64 f (→T (some? 64 f) e) in
           rw (lt-ltb (first 64 f) 64 (x .0))
-          (record { broken = breaks→ B bytes (first 64 f) (x .1); lowest = λ q r below force. kept→ B bytes q (first-lowest 64 f q below) r force })
+          (record { broken = breaks→ B bytes (first 64 f) (x .1); lowest = λ q r below force. kept→ B bytes q (first-lowest 64 f q (omega (arith, below))) r force })
       go (inr e) = rw (first-none 64 f e) (none-broken e)
 
 -- the checks off the value are the conditions off the ledger
@@ -96,8 +95,8 @@ unfolding wrongPlan?
 checks-same L shape s rep bytes =
     let board = no-calls (L .board) (shape .board) (s .value .heads) (rep .stored .headed) in
     let wrong =
-        some-same planSize (λ c. wrongByte? (slotsOnIn s c) (slotIn bytes c)) (λ c. wrongByte? (slotsOn (L .board) c) (slotIn bytes c))
-        (λ c h. ap (λ (n : ℕ). wrongByte? n (slotIn bytes c)) (slots-on-held L shape s rep c)) in
+    some-same planSize (λ c. wrongByte? (slotsOnIn s c) (slotIn bytes c)) (λ c. wrongByte? (slotsOn (L .board) c) (slotIn bytes c))
+    (λ c h. ap (λ (n : ℕ). wrongByte? n (slotIn bytes c)) (slots-on-held L shape s rep c)) in
     rw (board, wrong) refl
 
 pub plan-promise : (s : State) (bytes : List ℕ) → PlanPromise s bytes (planAnswer s bytes)

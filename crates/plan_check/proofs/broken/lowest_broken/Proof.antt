@@ -10,9 +10,6 @@ use Rattle.plan_check.specs.Laws.Answers.{lowest-found, lowest-none}
 use borrow.Author.Needs.{needs}
 use Rattle.plan_check.proofs.broken.lowest_broken.Statement.{statement}
 use Rattle.plan_check.proofs.broken.lowest_broken.Tie as tie
-use Rattle.plan_check.proofs.broken.lowest_broken.Reads as reads
-use Rattle.plan_check.proofs.broken.lowest_broken.Lts as lts
-use Rattle.plan_fit.proofs.breaks.Reads as breaks-reads
 
 abbrev Inv-loop : tie.InvT-loop
 Inv-loop arity scope lengths rows slots plan p₀ p = (p ≤ 64) × NoneBelow (breaks? (rulesIn (stateOfParts [] arity scope lengths rows [] slots)) plan) p
@@ -20,15 +17,12 @@ Inv-loop arity scope lengths rows slots plan p₀ p = (p ≤ 64) × NoneBelow (b
 abbrev μ-loop : tie.MeasureT-loop
 μ-loop arity scope lengths rows slots plan p₀ p = 64 - p
 
--- src/broken.rt:24:5
 loop-holds : tie.Need-loop-holds Inv-loop μ-loop
 loop-holds c = (omega arith, none-start)
 
--- src/broken.rt:25:12
 breaks-requires : tie.Need-breaks-requires Inv-loop μ-loop
 breaks-requires c κs = search needs
 
--- src/broken.rt:26:13
 returns : tie.Need-returns Inv-loop μ-loop
 returns c =
     let head = c .before .before .before in
@@ -36,15 +30,12 @@ returns c =
     lowest-found (rulesIn (stateOfParts [] (a .arity .now) (a .scope .now) (a .lengths .now) (a .rows .now) [] (a .slots .now))) (a .plan .now)
     (head .loop .inv .1) (omega arith) (sym (c .if1 .taken) ∙ c .before .breaks .ensures)
 
--- src/broken.rt:28:9
 add-p : tie.Need-add-p Inv-loop μ-loop
 add-p c = search needs
 
--- src/broken.rt:24:5
 loop-less : tie.Need-loop-less Inv-loop μ-loop
 loop-less c = search needs
 
--- src/broken.rt:24:5
 loop-again : tie.Need-loop-again Inv-loop μ-loop
 loop-again c =
     let head = c .before .before .before in (
@@ -52,7 +43,6 @@ loop-again c =
       none-more (head .loop .inv .1) (sym (c .before .breaks .ensures) ∙ c .if1 .left),
     )
 
--- src/broken.rt:10:1
 returns-2 : tie.Need-returns-2 Inv-loop μ-loop
 returns-2 c =
     let a = c .before .before .before .before .before .args in

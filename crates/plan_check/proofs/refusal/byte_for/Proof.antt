@@ -5,18 +5,13 @@ use Rattle.tables.specs.Laws.Facts.{any-default}
 use borrow.Author.Needs.{needs}
 use Rattle.plan_check.proofs.refusal.byte_for.Statement.{statement}
 use Rattle.plan_check.proofs.refusal.byte_for.Tie as tie
-use Rattle.plan_check.proofs.refusal.byte_for.Reads as reads
-use Rattle.plan_check.proofs.refusal.byte_for.Lts as lts
 
--- src/refusal.rt:20:25
 shared-slice-read-result : tie.Need-shared-slice-read-result
 shared-slice-read-result c = search needs
 
--- src/refusal.rt:17:1
 returns : tie.Need-returns
 returns c = any-default 0 255 (c .before .before .args .plan .now) _ (c .before .if1 .taken)
 
--- src/refusal.rt:17:1
 returns-2 : tie.Need-returns-2
 returns-2 c = sym (List·getD-eq-default (c .before .args .plan .now) 255 (c .if1 .left))
 

@@ -3,14 +3,10 @@ use mathlib.Core.Path.{refl}
 use borrow.Author.Tests.{eq-eqb, ne-eqb}
 use Rattle.plan_check.proofs.refusal.wrong_byte.Statement.{statement}
 use Rattle.plan_check.proofs.refusal.wrong_byte.Tie as tie
-use Rattle.plan_check.proofs.refusal.wrong_byte.Reads as reads
-use Rattle.plan_check.proofs.refusal.wrong_byte.Lts as lts
 
--- src/refusal.rt:36:1
 returns : tie.Need-returns
 returns c = rw (eq-eqb _ 0 (c .if1 .taken)) refl
 
--- src/refusal.rt:36:1
 returns-2 : tie.Need-returns-2
 returns-2 c = rw (ne-eqb _ 0 (c .if1 .left)) refl
 

@@ -11,11 +11,6 @@ use Rattle.plan_check.specs.Laws.Answers.{wrongAt, wrong-found, wrong-no
 use borrow.Author.Needs.{needs}
 use Rattle.plan_check.proofs.refusal.wrong_plan.Statement.{statement}
 use Rattle.plan_check.proofs.refusal.wrong_plan.Tie as tie
-use Rattle.plan_check.proofs.refusal.wrong_plan.Reads as reads
-use Rattle.plan_check.proofs.refusal.wrong_plan.Lts as lts
-use Rattle.plan_check.proofs.refusal.byte_for.Reads as byte-for-reads
-use Rattle.plan_check.proofs.refusal.slots_for.Reads as slots-for-reads
-use Rattle.plan_check.proofs.refusal.wrong_byte.Reads as wrong-byte-reads
 
 abbrev Inv-loop : tie.InvT-loop
 Inv-loop counts slots plan c₀ c = (c ≤ 32) × NoneBelow (wrongAt (slotsOnIn (stateOfParts counts [] [] [] [] [] slots)) plan) c
@@ -23,23 +18,18 @@ Inv-loop counts slots plan c₀ c = (c ≤ 32) × NoneBelow (wrongAt (slotsOnIn 
 abbrev μ-loop : tie.MeasureT-loop
 μ-loop counts slots plan c₀ c = 32 - c
 
--- src/refusal.rt:47:5
 loop-holds : tie.Need-loop-holds Inv-loop μ-loop
 loop-holds c = (omega arith, none-start)
 
--- src/refusal.rt:48:23
 slots-for-requires : tie.Need-slots-for-requires Inv-loop μ-loop
 slots-for-requires c κs = search needs
 
--- src/refusal.rt:48:52
 byte-for-requires : tie.Need-byte-for-requires Inv-loop μ-loop
 byte-for-requires c κs = search needs
 
--- src/refusal.rt:48:12
 wrong-byte-requires : tie.Need-wrong-byte-requires Inv-loop μ-loop
 wrong-byte-requires c κs = search needs
 
--- src/refusal.rt:49:13
 returns : tie.Need-returns Inv-loop μ-loop
 returns c =
     let bytes = c .before .before in
@@ -47,15 +37,12 @@ returns c =
     let is = c .before .wrong-byte .ensures ∙ ap₂ wrongByte? (bytes .before .slots-for .ensures) (bytes .byte-for .ensures) in
     wrong-found _ _ (head .loop .inv .1) (omega arith) (sym (c .if1 .taken) ∙ is)
 
--- src/refusal.rt:51:9
 add-c : tie.Need-add-c Inv-loop μ-loop
 add-c c = search needs
 
--- src/refusal.rt:47:5
 loop-less : tie.Need-loop-less Inv-loop μ-loop
 loop-less c = search needs
 
--- src/refusal.rt:47:5
 loop-again : tie.Need-loop-again Inv-loop μ-loop
 loop-again c =
     let bytes = c .before .before in
@@ -63,7 +50,6 @@ loop-again c =
     let is = c .before .wrong-byte .ensures ∙ ap₂ wrongByte? (bytes .before .slots-for .ensures) (bytes .byte-for .ensures) in
     (omega arith, none-more (head .loop .inv .1) (sym is ∙ c .if1 .left))
 
--- src/refusal.rt:43:1
 returns-2 : tie.Need-returns-2 Inv-loop μ-loop
 returns-2 c = wrong-none _ _ (c .before .loop .inv .1) (omega arith) (omega arith)
 

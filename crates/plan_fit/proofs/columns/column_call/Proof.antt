@@ -4,45 +4,32 @@ use Rattle.plan_fit.specs.Laws.Fits.{call-past, call-off, call-here}
 use borrow.Author.Needs.{needs}
 use Rattle.plan_fit.proofs.columns.column_call.Statement.{statement}
 use Rattle.plan_fit.proofs.columns.column_call.Tie as tie
-use Rattle.plan_fit.proofs.columns.column_call.Reads as reads
-use Rattle.plan_fit.proofs.columns.column_call.Lts as lts
-use Rattle.layout.proofs.places.cap.Reads as cap-reads
-use Rattle.layout.proofs.places.is_cancelled.Reads as is-cancelled-reads
 
--- src/columns.rt:18:22
 mul-call : tie.Need-mul-call
 mul-call c = search needs
 
--- src/columns.rt:18:22
 add-call : tie.Need-add-call
 add-call c = search needs
 
--- src/columns.rt:18:16
 element-copy-out-call : tie.Need-element-copy-out-call
 element-copy-out-call c = search needs
 
--- src/columns.rt:19:12
 element-copy-out-cap : tie.Need-element-copy-out-cap
 element-copy-out-cap c = search needs
 
--- src/columns.rt:19:8
 cap-requires : tie.Need-cap-requires
 cap-requires c κs = search needs
 
--- src/columns.rt:20:9
 returns : tie.Need-returns
 returns c = call-past _ _ _ _ _ (c .before .cap .ensures) (c .if1 .taken)
 
--- src/columns.rt:22:8
 is-cancelled-requires : tie.Need-is-cancelled-requires
 is-cancelled-requires c κs = search needs
 
--- src/columns.rt:13:1
 returns-2 : tie.Need-returns-2
 returns-2 c =
     call-off _ _ _ _ _ (c .before .before .before .cap .ensures) (c .before .before .if1 .left) (sym (c .if2 .taken) ∙ c .before .is-cancelled .ensures)
 
--- src/columns.rt:13:1
 returns-3 : tie.Need-returns-3
 returns-3 c =
     call-here _ _ _ _ _ (c .before .before .before .cap .ensures) (c .before .before .if1 .left) (sym (c .if2 .left) ∙ c .before .is-cancelled .ensures)

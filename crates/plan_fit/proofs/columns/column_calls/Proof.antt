@@ -4,27 +4,19 @@ use Rattle.masks.specs.Laws.Columns.{four}
 use borrow.Author.Needs.{needs}
 use Rattle.plan_fit.proofs.columns.column_calls.Statement.{statement}
 use Rattle.plan_fit.proofs.columns.column_calls.Tie as tie
-use Rattle.plan_fit.proofs.columns.column_calls.Reads as reads
-use Rattle.plan_fit.proofs.columns.column_calls.Lts as lts
-use Rattle.plan_fit.proofs.columns.column_call.Reads as column-call-reads
 
--- src/columns.rt:31:9
 column-call-requires : tie.Need-column-call-requires
 column-call-requires c κs = search needs
 
--- src/columns.rt:32:9
 column-call-requires-2 : tie.Need-column-call-requires-2
 column-call-requires-2 c κs = search needs
 
--- src/columns.rt:33:9
 column-call-requires-3 : tie.Need-column-call-requires-3
 column-call-requires-3 c κs = search needs
 
--- src/columns.rt:34:9
 column-call-requires-4 : tie.Need-column-call-requires-4
 column-call-requires-4 c κs = search needs
 
--- src/columns.rt:26:1
 returns : tie.Need-returns
 returns c =
     record {

@@ -4,67 +4,49 @@ use Rattle.plan_fit.specs.Laws.Words.{word-made}
 use borrow.Author.Needs.{needs}
 use Rattle.plan_fit.proofs.columns.column_mask.Statement.{statement}
 use Rattle.plan_fit.proofs.columns.column_mask.Tie as tie
-use Rattle.plan_fit.proofs.columns.column_mask.Reads as reads
-use Rattle.plan_fit.proofs.columns.column_mask.Lts as lts
-use Rattle.plan_fit.proofs.columns.mask_byte.Reads as mask-byte-reads
 
--- src/columns.rt:49:15
 array-read-mask-byte : tie.Need-array-read-mask-byte
 array-read-mask-byte c = search needs
 
--- src/columns.rt:49:5
 mask-byte-requires : tie.Need-mask-byte-requires
 mask-byte-requires c κs = search needs
 
--- src/columns.rt:50:27
 array-read-mask-byte-2 : tie.Need-array-read-mask-byte-2
 array-read-mask-byte-2 c = search needs
 
--- src/columns.rt:50:17
 mask-byte-requires-2 : tie.Need-mask-byte-requires-2
 mask-byte-requires-2 c κs = search needs
 
--- src/columns.rt:50:11
 mul-result : tie.Need-mul-result
 mul-result c = search needs
 
--- src/columns.rt:49:5
 add-result : tie.Need-add-result
 add-result c = search needs
 
--- src/columns.rt:51:29
 array-read-mask-byte-3 : tie.Need-array-read-mask-byte-3
 array-read-mask-byte-3 c = search needs
 
--- src/columns.rt:51:19
 mask-byte-requires-3 : tie.Need-mask-byte-requires-3
 mask-byte-requires-3 c κs = search needs
 
--- src/columns.rt:51:11
 mul-result-2 : tie.Need-mul-result-2
 mul-result-2 c = search needs
 
--- src/columns.rt:49:5
 add-result-2 : tie.Need-add-result-2
 add-result-2 c = search needs
 
--- src/columns.rt:52:32
 array-read-mask-byte-4 : tie.Need-array-read-mask-byte-4
 array-read-mask-byte-4 c = search needs
 
--- src/columns.rt:52:22
 mask-byte-requires-4 : tie.Need-mask-byte-requires-4
 mask-byte-requires-4 c κs = search needs
 
--- src/columns.rt:52:11
 mul-result-3 : tie.Need-mul-result-3
 mul-result-3 c = search needs
 
--- src/columns.rt:49:5
 add-result-3 : tie.Need-add-result-3
 add-result-3 c = search needs
 
--- src/columns.rt:46:1
 returns : tie.Need-returns
 returns c =
     word-made _ maskByte (c .before .before .before .mask-byte .ensures) (c .before .before .mask-byte2 .ensures) (c .before .mask-byte3 .ensures) (c .mask-byte4 .ensures)

@@ -4,14 +4,10 @@ use native.Mathlib.Omega.{arith}
 use Rattle.plan_fit.specs.Laws.Words.{byte-here, byte-none}
 use Rattle.plan_fit.proofs.columns.mask_byte.Statement.{statement}
 use Rattle.plan_fit.proofs.columns.mask_byte.Tie as tie
-use Rattle.plan_fit.proofs.columns.mask_byte.Reads as reads
-use Rattle.plan_fit.proofs.columns.mask_byte.Lts as lts
 
--- src/columns.rt:39:1
 returns : tie.Need-returns
 returns c = byte-here (c .if1 .taken) refl (omega arith)
 
--- src/columns.rt:39:1
 returns-2 : tie.Need-returns-2
 returns-2 c = byte-none 255 (c .if1 .left)
 

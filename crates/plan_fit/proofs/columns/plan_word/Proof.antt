@@ -4,67 +4,49 @@ use Rattle.plan_fit.specs.Laws.Words.{word-made}
 use borrow.Author.Needs.{needs}
 use Rattle.plan_fit.proofs.columns.plan_word.Statement.{statement}
 use Rattle.plan_fit.proofs.columns.plan_word.Tie as tie
-use Rattle.plan_fit.proofs.columns.plan_word.Reads as reads
-use Rattle.plan_fit.proofs.columns.plan_word.Lts as lts
-use Rattle.plan_fit.proofs.columns.plan_byte.Reads as plan-byte-reads
 
--- src/columns.rt:72:21
 array-read-plan-byte : tie.Need-array-read-plan-byte
 array-read-plan-byte c = search needs
 
--- src/columns.rt:72:5
 plan-byte-requires : tie.Need-plan-byte-requires
 plan-byte-requires c κs = search needs
 
--- src/columns.rt:73:33
 array-read-plan-byte-2 : tie.Need-array-read-plan-byte-2
 array-read-plan-byte-2 c = search needs
 
--- src/columns.rt:73:17
 plan-byte-requires-2 : tie.Need-plan-byte-requires-2
 plan-byte-requires-2 c κs = search needs
 
--- src/columns.rt:73:11
 mul-result : tie.Need-mul-result
 mul-result c = search needs
 
--- src/columns.rt:72:5
 add-result : tie.Need-add-result
 add-result c = search needs
 
--- src/columns.rt:74:35
 array-read-plan-byte-3 : tie.Need-array-read-plan-byte-3
 array-read-plan-byte-3 c = search needs
 
--- src/columns.rt:74:19
 plan-byte-requires-3 : tie.Need-plan-byte-requires-3
 plan-byte-requires-3 c κs = search needs
 
--- src/columns.rt:74:11
 mul-result-2 : tie.Need-mul-result-2
 mul-result-2 c = search needs
 
--- src/columns.rt:72:5
 add-result-2 : tie.Need-add-result-2
 add-result-2 c = search needs
 
--- src/columns.rt:75:38
 array-read-plan-byte-4 : tie.Need-array-read-plan-byte-4
 array-read-plan-byte-4 c = search needs
 
--- src/columns.rt:75:22
 plan-byte-requires-4 : tie.Need-plan-byte-requires-4
 plan-byte-requires-4 c κs = search needs
 
--- src/columns.rt:75:11
 mul-result-3 : tie.Need-mul-result-3
 mul-result-3 c = search needs
 
--- src/columns.rt:72:5
 add-result-3 : tie.Need-add-result-3
 add-result-3 c = search needs
 
--- src/columns.rt:68:1
 returns : tie.Need-returns
 returns c =
     let start = c .before .before .before .before .before in

@@ -8,10 +8,6 @@ use Rattle.model.specs.Tests.{some?}
 use Rattle.plan_fit.specs.Words.{rowMatches?}
 use Rattle.plan_fit.proofs.rows.has_row.Statement.{statement}
 use Rattle.plan_fit.proofs.rows.has_row.Tie as tie
-use Rattle.plan_fit.proofs.rows.has_row.Reads as reads
-use Rattle.plan_fit.proofs.rows.has_row.Lts as lts
-use Rattle.layout.proofs.places.cap.Reads as cap-reads
-use Rattle.masks.proofs.columns.word.Reads as word-reads
 
 abbrev Inv-loop : tie.InvT-loop
 Inv-loop rows lengths p mask wanted held found₀ w₀ found w = (w ≤ held) × (found ≡ some? w (rowMatches? rows p mask wanted))
@@ -19,47 +15,36 @@ Inv-loop rows lengths p mask wanted held found₀ w₀ found w = (w ≤ held) ×
 abbrev μ-loop : tie.MeasureT-loop
 μ-loop rows lengths p mask wanted held found₀ w₀ found w = held - w
 
--- src/rows.rt:18:20
 element-copy-out-cap : tie.Need-element-copy-out-cap Inv-loop μ-loop
 element-copy-out-cap c = search needs
 
--- src/rows.rt:18:9
 cap-requires : tie.Need-cap-requires Inv-loop μ-loop
 cap-requires c κs = search needs
 
--- src/rows.rt:21:5
 loop-holds : tie.Need-loop-holds Inv-loop μ-loop
 loop-holds c = (omega arith, refl)
 
--- src/rows.rt:22:37
 mul-word : tie.Need-mul-word Inv-loop μ-loop
 mul-word c = search needs
 
--- src/rows.rt:22:47
 mul-word-2 : tie.Need-mul-word-2 Inv-loop μ-loop
 mul-word-2 c = search needs
 
--- src/rows.rt:22:37
 add-word : tie.Need-add-word Inv-loop μ-loop
 add-word c = search needs
 
--- src/rows.rt:22:26
 word-requires : tie.Need-word-requires Inv-loop μ-loop
 word-requires c κs = search needs
 
--- src/rows.rt:23:9
 add-w : tie.Need-add-w Inv-loop μ-loop
 add-w c = search needs
 
--- src/rows.rt:21:5
 loop-less : tie.Need-loop-less Inv-loop μ-loop
 loop-less c = search needs
 
--- src/rows.rt:21:5
 loop-again : tie.Need-loop-again Inv-loop μ-loop
 loop-again c = (omega arith, rw (add-one, c .before .before .loop .inv .1, c .word .ensures) refl)
 
--- src/rows.rt:13:1
 returns : tie.Need-returns Inv-loop μ-loop
 returns c =
     let all : c .before .loop .w ≡ c .before .before .cap .result = omega arith in
