@@ -30,6 +30,10 @@ pub fn breaks(
     ensures { λ r. ⌜ r
         ≡ breaks? (rulesIn (ruleParts (arity .entry) (scope .entry) (lengths .entry) (rows .entry) (slots .entry))) (now (plan .entry)) p ⌝ }
 {
+    // most numbers of an everyday board are not in force
+    if arity[p] == 0 {
+        return false;
+    }
     let calls = column_calls(arity, scope, slots, p);
     let mask = column_mask(calls);
     if mask == 0 {

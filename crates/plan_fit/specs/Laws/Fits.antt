@@ -35,6 +35,11 @@ module _ (arity scope slots : List ℕ) (p k : ℕ) {n : ℕ} (columns : n ≡ c
   unfolding columnCall
   call-here h off = rw (lt-ltb k (columnsOf arity p) (omega arith), ← off) refl
 
+-- A NUMBER THAT IS NOT IN FORCE is not broken
+pub no-rule-broken : (s : State) (plan : List ℕ) (p : ℕ) → getD (s .value .heads .arity) p 0 ≡ 0 → false ≡ breaks? (rulesIn s) plan p
+unfolding breaks? binds?
+no-rule-broken s plan p e = rw e refl
+
 -- ONE RULE of a state, with the words that the code makes of its columns and of the plan
 module _ (s : State) (plan : List ℕ) (size : length plan ≡ planSize) (p : ℕ) {calls : List ℕ}
     (columns : ColumnCalls (s .value .heads .arity) (s .value .heads .scope) (s .slots) p calls) {mask : ℕ} (masked : IsWord calls maskByte mask) where
