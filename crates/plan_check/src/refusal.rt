@@ -1,4 +1,5 @@
-// The checks of the question, in the order of SCOPE 4.3: 1, 32, 6, 33. Each is looked at whether or not one before it holds, so none relies on another to be safe.
+// The checks of the question, in the order of SCOPE 4.3: 1, 32, 6, 33. None relies on another to be safe; the bytes are looked at last, where nothing else is
+// refused.
 use layout::places::is_cancelled;
 use layout::value::bad_lengths;
 use model::refusal::BAD_PLAN_BYTE;
@@ -25,10 +26,11 @@ fn slots_for(counts: &[u8; 32], slots: &[u8], c: usize) -> u8
     requires { ⌜ c < 32 ⌝ }
     ensures { λ r. ⌜ r ≡ slotsOnIn (callParts (counts .entry) (slots .entry)) c ⌝ }
 {
+    let held = counts[c];
     if is_cancelled(slots, c as u8) {
         0
     } else {
-        counts[c]
+        held
     }
 }
 
@@ -39,18 +41,17 @@ fn wrong_byte(held: u8, byte: u8) -> bool
     if held == 0 { byte != 255 } else { held <= byte }
 }
 
-// Some byte of the plan is wrong.
+// Some byte of the plan is wrong. Without a branch, so that the compiler looks at several at once.
 fn wrong_plan(counts: &[u8; 32], slots: &[u8], plan: &[u8]) -> bool
     ensures { λ r. ⌜ r ≡ wrongPlan? (slotsOnIn (callParts (counts .entry) (slots .entry))) (now (plan .entry)) ⌝ }
 {
+    let mut wrong = false;
     let mut c = 0;
     while c < 32 {
-        if wrong_byte(slots_for(counts, slots, c), byte_for(plan, c)) {
-            return true;
-        }
+        wrong = wrong | wrong_byte(slots_for(counts, slots, c), byte_for(plan, c));
         c += 1;
     }
-    false
+    wrong
 }
 
 // The number of the first check that holds, or 0.
@@ -63,5 +64,8 @@ pub fn plan_refusal(counts: &[u8; 32], rows: &[u8], killers: &[u8], slots: &[u8]
     let n = or_refuse(0, bad_lengths(rows, killers, slots), BUFFER_LENGTH);
     let n = or_refuse(n, another_length, PLAN_LENGTH);
     let n = or_refuse(n, no_board, NO_BOARD);
+    if n != 0 {
+        return n;
+    }
     or_refuse(n, wrong_plan(counts, slots, plan), BAD_PLAN_BYTE)
 }

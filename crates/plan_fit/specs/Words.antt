@@ -1,11 +1,11 @@
 -- A RULE'S COLUMNS IN WORDS: a byte for each column, the first as the lowest, so that a row and a plan's slots are compared at once. A column that does not count has
 -- the byte 0 in what is compared.
 use mathlib.Core.Path.{_≡_}
-use mathlib.Core.Bool.{Bool, not, _&&_, cond}
+use mathlib.Core.Bool.{Bool, true, false, not, _&&_, cond}
 use mathlib.Core.List.{List}
-use Prim.Native.Nat.{ℕ, _+_, _*_, _<_}
+use Prim.Native.Nat.{ℕ, _+_, _*_, _<_, _≤_}
 use lib.ListN.{length, getD}
-use lib.Dec.{eqb, ltb}
+use lib.Dec.{T, eqb, ltb}
 use lib.Bits.{bitAnd}
 use Rattle.layout.specs.Places.{rowStart, columnsOf, callOf, cancelled?}
 use Rattle.masks.specs.Columns.{wordAt}
@@ -34,6 +34,11 @@ pub record IsByte (v r : ℕ) : Type 0 where
 pub record IsWord (calls : List ℕ) (byte : ℕ → ℕ) (r : ℕ) : Type 0 where
   pub is : r ≡ byte (getD calls 0 0) + 256 * byte (getD calls 1 0) + 65536 * byte (getD calls 2 0) + 16777216 * byte (getD calls 3 0)
   pub small : (k : ℕ) → k < 4 → byte (getD calls k 0) < 256
+
+-- r says whether a number from one on and below another passes a test
+pub record SomeBetween (f : ℕ → Bool) (from to : ℕ) (r : Bool) : Type 0 where
+  pub found : r ≡ true → (w : ℕ) × (from ≤ w) × (w < to) × T (f w)
+  pub none : r ≡ false → (w : ℕ) → from ≤ w → w < to → f w ≡ false
 
 -- row w of rule p is the wanted word in the columns of the mask
 abbrev pub rowMatches? : List ℕ → ℕ → ℕ → ℕ → ℕ → Bool

@@ -1,7 +1,7 @@
 -- WHAT THE QUESTION'S FUNCTION SHOWS of its answer, to meet its promise: where the number n of its checks is not 0 the answer is that refusal, and where n is 0 the buffers
 -- and the plan have their lengths, and the answer is the lowest broken rule. Assumes nothing.
 use mathlib.Core.Path.{_≡_, refl, sym, subst, _∙_}
-use mathlib.Core.Bool.{Bool, true, false}
+use mathlib.Core.Bool.{Bool, true}
 use mathlib.Core.List.{List}
 use mathlib.Core.Logic.{_≢_}
 use Prim.Native.Nat.{ℕ, _<_, _≤_}
@@ -11,12 +11,13 @@ use lib.Dec.{eqb}
 use borrow.Author.Tests.{lt-ltb, le-ltb, eqb-true, not-false}
 use Rattle.layout.specs.Memory.{State, lentOf}
 use Rattle.layout.specs.Sizes.{rowsLength}
+use Rattle.model.specs.Tests.{some?}
 use Rattle.model.specs.Refusals.{firstOf}
 use Rattle.model.specs.Numbers as refused
 use Rattle.model.specs.Laws.Refusals.{none-holds, refused-by}
 use Rattle.model.specs.Laws.Shapes.{lent-sizes}
 use Rattle.model.specs.Laws.Tests.{→T}
-use Rattle.model.specs.Laws.Search.{NoneBelow, some-found, none-found}
+use Rattle.model.specs.Laws.Search.{NoneBelow}
 use Rattle.model.specs.Laws.Questions.{first-found, first-none}
 use Rattle.plan_model.specs.declared.answer.PlanCheck.the-variants as plan
 use Rattle.plan_model.specs.Plans.{planSize, slotIn, RulesRead, rulesIn, breaks?, lowestBroken}
@@ -45,18 +46,14 @@ module _ (s : State) (bytes : List ℕ) {n : ℕ} (e : n ≡ firstOf (planChecks
     pub plan-kept : 64 ≤ p → PlanPromise s bytes plan.Kept
     plan-kept h = rw (le-ltb p 64 h) at answered
 
--- THE LOOP OVER THE BYTES: one that is wrong, or none
+-- THE LOOP OVER THE BYTES, when it is through
 module _ (held : ℕ → ℕ) (bytes : List ℕ) where
   abbrev pub wrongAt : ℕ → Bool
   wrongAt c = wrongByte? (held c) (slotIn bytes c)
 
-  pub wrong-found : {c : ℕ} → NoneBelow wrongAt c → c < planSize → true ≡ wrongAt c → true ≡ wrongPlan? held bytes
+  pub wrong-all : {c : ℕ} {wrong : Bool} → wrong ≡ some? c wrongAt → c ≡ planSize → wrong ≡ wrongPlan? held bytes
   unfolding wrongPlan?
-  wrong-found none h e = some-found none planSize h (sym e)
-
-  pub wrong-none : {c : ℕ} → NoneBelow wrongAt c → c ≤ planSize → planSize ≤ c → false ≡ wrongPlan? held bytes
-  unfolding wrongPlan?
-  wrong-none none h k = none-found none planSize h k
+  wrong-all e all = rw all at e
 
 -- THE LOOP OVER THE RULES: the first that is broken, or none
 module _ (R : RulesRead) (bytes : List ℕ) {p : ℕ} (none : NoneBelow (breaks? R bytes) p) where
