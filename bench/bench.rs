@@ -3,7 +3,8 @@
 //! command of the library leaves the summary table current, too, in the time that is measured; the others have no such table.
 //!
 //! Gap rules are measured apart from these: each is one command of the library, against the head and the rows of the same draft. So are marks and backs of order
-//! 13's board, cancellations, and commands that have next to nothing to do, of the library alone.
+//! 13's board, cancellations, and commands that have next to nothing to do, of the library alone; and checks of plans, against a board that is made for them
+//! (plans.rs), compiled twice like afresh.rs. The library is handed a copy of its value with each check.
 #[path = "../hosts/berth.rs"]
 mod berth;
 
@@ -75,17 +76,27 @@ fn three_calls(r: usize) -> [usize; 3] {
 /// Rules of three calls. Eight full plans keep some slots open whatever happens; the other rows are arbitrary, and most of their slots are struck. With 24 rules
 /// each of them strikes something of its own; with 64 nearly every slot is struck by several, so that a lift touches many and reopens few.
 fn dense(name: &'static str, number_of_rules: usize, rounds: usize) -> Case {
+    around_plans(name, (0..number_of_rules).map(|r| three_calls(r).to_vec()), rounds)
+}
+
+/// Rules on these calls, each with the rows of the same eight plans and 56 that are arbitrary.
+fn around_plans(name: &'static str, calls_of_rules: impl Iterator<Item = Vec<usize>>, rounds: usize) -> Case {
     let mut random = Random(13);
     let plans: Vec<Vec<usize>> = (0..8).map(|_| (0..32).map(|_| random.below(32)).collect()).collect();
     let mut rules = vec![];
-    for r in 0..number_of_rules {
-        let calls = three_calls(r);
+    for (r, calls) in calls_of_rules.enumerate() {
         let of_plan = |plan: &Vec<usize>| calls.iter().map(|call| plan[*call]).collect();
         let mut rows: Vec<Vec<usize>> = plans.iter().map(of_plan).collect();
-        rows.extend((8..64).map(|_| vec![random.below(32), random.below(32), random.below(32)]));
+        rows.extend((8..64).map(|_| calls.iter().map(|_| random.below(32)).collect()));
         rules.push(Rule::new(r, &calls, rows));
     }
     Case { name, counts: vec![32; 32], measured: (0..rules.len()).collect(), rules, rounds }
+}
+
+/// The overfull board with a fourth call in each rule.
+fn four_calls() -> Case {
+    let with_fourth = |r: usize| [&three_calls(r)[..], &[(r + 12) % 32]].concat();
+    around_plans("four calls", (0..64).map(with_fourth), 20)
 }
 
 /// 64 rules of three calls with equal slots and as many arbitrary rows. Six of the rules leave out five equal slots each, which strikes them on nearly every call:
@@ -509,12 +520,200 @@ fn measure_small_commands(clock: u64) {
     }
 }
 
+/// The lowest number of a rule that a plan breaks, none where it keeps all, or the number of a refusal.
+type Checked = Result<Option<u8>, u8>;
+
+/// A plan, and the answer that is due.
+#[derive(Clone, Copy)]
+struct Plan {
+    bytes: [u8; berth::PLAN],
+    due: Checked,
+}
+
+/// A board, its cancelled calls, and some of its full plans: a byte for each call on it, 255 for those that are cancelled.
+struct Planned {
+    name: &'static str,
+    case: Case,
+    cancelled: Vec<u8>,
+    full_plans: Vec<Vec<u8>>,
+}
+
+/// The plan's byte for a call; 255 past its end.
+fn byte_for(plan: &[u8], call: usize) -> u8 {
+    plan.get(call).copied().unwrap_or(berth::NONE)
+}
+
+fn with_byte(plan: &[u8], call: usize, byte: u8) -> Vec<u8> {
+    let mut changed = plan.to_vec();
+    changed[call] = byte;
+    changed
+}
+
+/// A row of the rule has the plan's slots, in the columns of the calls that have one.
+fn fits(plan: &[u8], rule: &Rule) -> bool {
+    let in_column = |(call, slot): (&u8, &u8)| [*slot, berth::NONE].contains(&byte_for(plan, *call as usize));
+    rule.rows.iter().any(|row| rule.calls.iter().zip(row).all(in_column))
+}
+
+impl Planned {
+    /// On order 13's board equal slots fit every rule, but for slot 31.
+    fn busiest() -> Self {
+        let full_plans = (0..31).map(|slot| vec![slot; 32]).collect();
+        Planned { name: "order 13", case: busiest(), cancelled: vec![], full_plans }
+    }
+
+    /// All full plans, found call by call: those so far with each slot of the next call, as long as every rule has a row that fits.
+    fn searched(name: &'static str, case: Case, cancelled: Vec<u8>) -> Self {
+        let mut plans = vec![vec![]];
+        for (call, count) in case.counts.iter().enumerate() {
+            let bytes = if cancelled.contains(&(call as u8)) { vec![berth::NONE] } else { (0..*count).collect() };
+            let longer = |plan: &Vec<u8>| bytes.iter().map(|byte| [&plan[..], &[*byte]].concat()).collect::<Vec<_>>();
+            plans = plans.iter().flat_map(longer).collect();
+            plans.retain(|plan| case.rules.iter().all(|rule| fits(plan, rule)));
+        }
+        Planned { name, case, cancelled, full_plans: plans }
+    }
+
+    /// The whole plan, with 255 for the calls that are not on the board. The rules of a case are in rising order.
+    fn plan(&self, plan: &[u8]) -> Plan {
+        let broken = self.case.rules.iter().find(|rule| !fits(plan, rule));
+        Plan { bytes: std::array::from_fn(|call| byte_for(plan, call)), due: Ok(broken.map(|rule| rule.number)) }
+    }
+
+    fn kept(&self) -> Vec<Plan> {
+        let plans: Vec<Plan> = self.full_plans.iter().map(|plan| self.plan(plan)).collect();
+        assert!(plans.iter().all(|plan| plan.due == Ok(None)), "{}: a full plan that is not one", self.name);
+        plans
+    }
+
+    /// The full plans with one slot changed, where that breaks a rule.
+    fn broken(&self) -> Vec<Plan> {
+        let mut plans = vec![];
+        for plan in &self.full_plans {
+            for call in (0..plan.len()).filter(|call| plan[*call] != berth::NONE) {
+                plans.extend((0..self.case.counts[call]).map(|slot| self.plan(&with_byte(plan, call, slot))));
+            }
+        }
+        plans.retain(|plan| plan.due != Ok(None));
+        plans
+    }
+
+    fn ours(&self) -> Ours {
+        let mut side = Ours::start(&self.case);
+        put_all(&mut side, &self.case);
+        for call in &self.cancelled {
+            side.board.cancel(*call).unwrap();
+        }
+        side
+    }
+}
+
+impl Ours {
+    fn check(&self, plan: &[u8]) -> Checked {
+        match self.board.check_plan(plan) {
+            Ok(berth::PlanCheck::Kept) => Ok(None),
+            Ok(berth::PlanCheck::Broken { rule }) => Ok(Some(rule)),
+            Err(refusal) => Err(refusal.number()),
+        }
+    }
+}
+
+/// The board of the crate of this name.
+macro_rules! plans_board {
+    ($library:ident, $board:expr) => {{
+        let mut board = $library::Board::new(&$board.case.counts, &$board.cancelled);
+        for rule in &$board.case.rules {
+            board.put(rule.number, &rule.calls, &rule.rows);
+        }
+        board
+    }};
+}
+
+/// Checks plans in a row. Each answer has to be the one that is due.
+fn pass(times: &mut Vec<u64>, plans: &[Plan], check: impl Fn(&[u8]) -> Checked) {
+    let mut others = 0;
+    timed(times, || others = plans.iter().filter(|plan| check(&plan.bytes) != plan.due).count());
+    assert!(others == 0, "{others} other answers");
+}
+
+/// The plans stand in another order in each round, so that the processor cannot learn them by heart.
+fn measure_plans_of(board: &Planned, clock: u64) {
+    let (ours, tables, native) = (board.ours(), plans_board!(plans, board), plans_board!(plans_native, board));
+    let mut random = Random(10);
+    for (answer, plans) in [("kept", board.kept()), ("broken", board.broken())] {
+        let mut times = [vec![], vec![], vec![]];
+        for _ in 0..401 {
+            let row: Vec<Plan> = (0..IN_A_ROW).map(|_| plans[random.below(plans.len())]).collect();
+            pass(&mut times[0], &row, |plan| ours.check(plan));
+            pass(&mut times[1], &row, |plan| tables.check(plan));
+            pass(&mut times[2], &row, |plan| native.check(plan));
+        }
+        let times = times.map(|times| (median(&times) - clock) as f64 / IN_A_ROW as f64);
+        plans_line(board.name, answer, plans.len(), times);
+    }
+}
+
+fn plans_line(name: &str, answer: &str, number: usize, [ours, tables, native]: [f64; 3]) {
+    let a_second = |time: f64| 1000.0 / time;
+    println!(
+        "| {:13} | {:6} | {:6} | {:7.1} | {:6.1} | {:5.2} | {:6.1} | {:5.2} | {:7.2} | {:6.1} | {:6.1} |",
+        name,
+        answer,
+        number,
+        ours,
+        tables,
+        tables / ours,
+        native,
+        native / ours,
+        a_second(ours),
+        a_second(tables),
+        a_second(native)
+    );
+}
+
+/// All sides refuse alike: a plan with a wrong byte, one that is too short or too long, and any where there is no board.
+fn compare_refusals() {
+    let board = Planned::searched("everyday", everyday(), vec![]);
+    let fresh = Ours { board: berth::Board::new(), changes: Changes::default() };
+    let (ours, tables, no_tables) = (board.ours(), plans_board!(plans, board), plans::Board::new(&[], &[]));
+    let plan = &board.kept()[0].bytes;
+    let mut refused: Vec<Vec<u8>> = (0..plan.len()).map(|call| with_byte(plan, call, 8)).collect();
+    refused.extend([plan[1..].to_vec(), [&plan[..], &[berth::NONE]].concat()]);
+    for plan in refused {
+        let answers = [ours.check(&plan), tables.check(&plan), fresh.check(&plan), no_tables.check(&plan)];
+        assert!(answers[0].is_err() && answers[0] == answers[1], "{plan:?}: another answer");
+        assert!(answers[2].is_err() && answers[2] == answers[3], "{plan:?}: another answer without a board");
+    }
+}
+
+fn measure_plans(clock: u64) {
+    compare_refusals();
+    println!("Nanoseconds per check, medians of {IN_A_ROW} plans in a row; reading the clock, {clock} ns, is taken off.\nA ratio above 1: the library is faster. The last three columns are millions of checks a second.\n");
+    println!(
+        "| {:13} | {:6} | {:6} | {:>7} | {:>6} | {:5} | {:>6} | {:5} | {:>7} | {:>6} | {:>6} |",
+        "board", "answer", "plans", "library", "tables", "ratio", "native", "ratio", "library", "tables", "native"
+    );
+    println!(
+        "|---------------|--------|--------|---------|--------|-------|--------|-------|---------|--------|--------|"
+    );
+    let boards = [
+        Planned::busiest(),
+        Planned::searched("overfull", dense("overfull", 64, 20), vec![]),
+        Planned::searched("four calls", four_calls(), vec![]),
+        Planned::searched("everyday", everyday(), vec![]),
+        Planned::searched("busy day", busy_day(), vec![]),
+        Planned::searched("one cancelled", busy_day(), vec![2]),
+    ];
+    boards.iter().for_each(|board| measure_plans_of(board, clock));
+}
+
 /// What is measured besides the boards, by its name among theirs.
-const OTHERS: [(&str, fn(u64)); 4] = [
+const OTHERS: [(&str, fn(u64)); 5] = [
     ("gap rules", measure_gap_rules),
     ("marks", measure_marks),
     ("cancellations", measure_cancellations),
     ("small commands", measure_small_commands),
+    ("plans", measure_plans),
 ];
 
 /// The boards of this name, or all where it is empty. A name that nothing has ends the program with the list of them.

@@ -5,9 +5,9 @@
  * the host holds a value, the names of two marks, four buffers and a summary table. It lends all of it to commands, which write it in place, and to questions
  * three of the buffers; the value they are handed as a copy. struct berth_board below holds all of it.
  *
- * Each function is proved to return, and to stay inside what it is lent, whatever the value, the names, the buffers, the table and the command's bytes hold.
- * What the host has to see to: the library is the header's (berth_header_fits), a pointer is not null and reaches as far as its length says, or as one value or
- * two names do, and what is lent to one call, value and names among it, does not overlap.
+ * Each function is proved to return, and to stay inside what it is lent, whatever the value, the names, the buffers, the table and the bytes of a command, a file
+ * or a plan hold. What the host has to see to: the library is the header's (berth_header_fits), a pointer is not null and reaches as far as its length says, or
+ * as one value or two names do, and what is lent to one call, value and names among it, does not overlap.
  *
  * A board takes 66,121 bytes, 43,008 of them the marks'; value and names, which are held beside the buffers, are 1,513. The library takes nothing from a heap. It
  * has no variables, so boards have nothing to do with each other: threads may work on different boards at once. A board is one thread's at a time, except that
@@ -76,7 +76,7 @@ extern "C" {
 #define BERTH_SLOT_ABSENT 254 /* not on the board; in an answer, refused */
 #define BERTH_SLOT_CANCELLED 253
 
-/* A row's killer where it lives, the row where there is no support, and a field past the arity. */
+/* A row's killer where it lives, the row where there is no support, a field past the arity, a plan's byte for a call without a slot, and a plan that is kept. */
 #define BERTH_NONE 255
 
 /* Value and names together, struct berth_marked_value. */
@@ -88,6 +88,9 @@ extern "C" {
 /* The longest file of commands that is read. */
 #define BERTH_FILE 32768
 
+/* The bytes of a plan. */
+#define BERTH_PLAN 32
+
 /*
  * The stack that a call needs, with the copies of the value that the questions are handed. It is measured and not proved: on x86-64, over every function and the
  * commands of a full board, hosts/stack.c found 6,216 bytes where it was compiled without optimisation, 6,824 with -O2, and 7,032, the most, with -O3.
@@ -95,7 +98,7 @@ extern "C" {
 #define BERTH_STACK 12288
 
 /* The version that this header is of. It rises with any change of a struct, of a function or of what one means. */
-#define BERTH_VERSION 9
+#define BERTH_VERSION 10
 
 /* The version of the library, and the bytes of its value and names. They are plain numbers, so that they can be asked whatever else differs. */
 uint32_t berth_version(void);
@@ -150,7 +153,9 @@ enum berth_refusal {
     BERTH_NAME_OVER_1 = 26,
     BERTH_NOTHING_KEPT = 27,
     BERTH_ALREADY_CANCELLED = 28,
-    BERTH_CANCELLED_CALL = 29
+    BERTH_CANCELLED_CALL = 29,
+    BERTH_PLAN_LENGTH = 32,
+    BERTH_BAD_PLAN_BYTE = 33
 };
 
 /* The condition that a refusal's number stands for; of 0, that there was none. */
@@ -186,6 +191,8 @@ static inline const char *berth_refusal_text(uint8_t number) {
     case BERTH_NOTHING_KEPT: return "nothing is kept under the name";
     case BERTH_ALREADY_CANCELLED: return "the call is cancelled already";
     case BERTH_CANCELLED_CALL: return "a call of the new rule is cancelled";
+    case BERTH_PLAN_LENGTH: return "the plan is not 32 bytes";
+    case BERTH_BAD_PLAN_BYTE: return "a byte of the plan is no slot of its call, or is not 255 where the call gets none";
     default: return "no refusal has this number";
     }
 }
@@ -341,6 +348,19 @@ struct berth_support_reply {
 
 struct berth_support_reply berth_support(struct berth_value value, const uint8_t *rows, size_t rows_length, const uint8_t *killers, size_t killers_length,
                                          const uint8_t *slots, size_t slots_length, uint8_t rule, uint8_t column, uint8_t slot);
+
+/*
+ * A plan from elsewhere, of BERTH_PLAN bytes: byte c is the slot of call c, and BERTH_NONE where the call is cancelled or not on the board. It is kept when every
+ * rule in force has a row with, in each column whose call is not cancelled, the plan's slot for that call; a rule all of whose calls are cancelled asks nothing.
+ * A struck slot is a slot of its call, so it is not refused; but a plan with one breaks some rule, which need not be on that call. Checked: 1, 32, 6, 33.
+ */
+struct berth_plan_reply {
+    uint8_t number; /* 0, or the refusal */
+    uint8_t broken; /* BERTH_NONE where the plan is kept; else the lowest number of a rule that it breaks; 254 where refused */
+};
+
+struct berth_plan_reply berth_check_plan(struct berth_value value, const uint8_t *rows, size_t rows_length, const uint8_t *killers, size_t killers_length,
+                                         const uint8_t *slots, size_t slots_length, const uint8_t *plan, size_t plan_length);
 
 /* The caller has to look at what such a function returns. */
 #if defined(__GNUC__)
@@ -523,6 +543,10 @@ static inline const uint8_t *berth_board_row_bytes(const struct berth_board *boa
 
 static inline struct berth_support_reply berth_board_support(const struct berth_board *board, uint8_t rule, uint8_t column, uint8_t slot) {
     return berth_support(BERTH_PARTS(board), rule, column, slot);
+}
+
+static inline struct berth_plan_reply berth_board_check_plan(const struct berth_board *board, const uint8_t *plan, size_t length) {
+    return berth_check_plan(BERTH_PARTS(board), plan, length);
 }
 
 #ifdef __cplusplus

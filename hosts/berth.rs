@@ -20,7 +20,7 @@ pub const SLOT_OPEN: u8 = 255;
 pub const SLOT_ABSENT: u8 = 254;
 pub const SLOT_CANCELLED: u8 = 253;
 
-/// A row's killer where it lives, the row where there is no support, and a field past the arity.
+/// A row's killer where it lives, the row where there is no support, a field past the arity, and a plan's byte for a call without a slot.
 pub const NONE: u8 = 255;
 
 /// The summary table's length, in records.
@@ -29,8 +29,11 @@ pub const RECORDS: usize = 32;
 /// The longest file of commands that is read.
 pub const FILE: usize = 32768;
 
+/// The bytes of a plan: a slot for each call, and `NONE` for a call that is cancelled or not on the board.
+pub const PLAN: usize = 32;
+
 /// The version that this file is of; the library has its own.
-pub const VERSION: u32 = 9;
+pub const VERSION: u32 = 10;
 
 /// The calls and the heads of the rules in force.
 #[repr(C)]
@@ -175,6 +178,8 @@ refusals! {
     27 NothingKept "nothing is kept under the name"
     28 AlreadyCancelled "the call is cancelled already"
     29 CancelledCall "a call of the new rule is cancelled"
+    32 PlanLength "the plan is not 32 bytes"
+    33 BadPlanByte "a byte of the plan is no slot of its call, or is not 255 where the call gets none"
 }
 
 impl fmt::Display for Refusal {
@@ -239,6 +244,15 @@ pub enum Row {
     Dead { killer: u8 },
 }
 
+/// What a plan does with the rules in force.
+#[derive(Clone, Copy, Debug, PartialEq, Eq)]
+pub enum PlanCheck {
+    /// it keeps them all
+    Kept,
+    /// the lowest number of one that it breaks
+    Broken { rule: u8 },
+}
+
 pub type Answer<T> = Result<T, Refusal>;
 
 /// The library's functions on lent memory.
@@ -266,7 +280,7 @@ pub mod lent {
         number: u8,
     }
 
-    // The replies of two bytes, to the questions on a slot, a row and a support, have one layout.
+    // The replies of two bytes, to the questions on a slot, a row, a support and a plan, have one layout.
     #[repr(C)]
     struct ByteReply {
         number: u8,
@@ -295,6 +309,7 @@ pub mod lent {
         fn berth_row_state(value: Value, rows: Lent, r: usize, killers: Lent, k: usize, slots: Lent, s: usize, rule: u8, row: u8) -> ByteReply;
         fn berth_row_place(value: Value, rows: Lent, r: usize, killers: Lent, k: usize, slots: Lent, s: usize, rule: u8, row: u8) -> PlaceReply;
         fn berth_support(value: Value, rows: Lent, r: usize, killers: Lent, k: usize, slots: Lent, s: usize, rule: u8, column: u8, slot: u8) -> ByteReply;
+        fn berth_check_plan(value: Value, rows: Lent, r: usize, killers: Lent, k: usize, slots: Lent, s: usize, plan: Lent, p: usize) -> ByteReply;
     }
 
     fn answer<T>(number: u8, given: T) -> Answer<T> {
@@ -429,7 +444,7 @@ pub mod lent {
         pub slots: &'a [u8],
     }
 
-    // The value and the three slices, as the questions take them, before the question's own numbers.
+    // The value and the three slices, as the questions take them, before the question's own numbers or its plan.
     macro_rules! ask {
         ($question:ident, $memory:expr, $($number:expr),+) => {{
             look();
@@ -488,6 +503,16 @@ pub mod lent {
             let given = match reply.byte {
                 NONE => None,
                 row => Some(row),
+            };
+            answer(reply.number, given)
+        }
+
+        /// Whether the plan, `PLAN` bytes, keeps every rule in force; struck slots are slots of their calls here, and break a rule.
+        pub fn check_plan(self, plan: &[u8]) -> Answer<PlanCheck> {
+            let reply = ask!(berth_check_plan, self, plan.as_ptr(), plan.len());
+            let given = match reply.byte {
+                NONE => PlanCheck::Kept,
+                rule => PlanCheck::Broken { rule },
             };
             answer(reply.number, given)
         }
@@ -639,5 +664,10 @@ impl Board {
     /// The lowest-numbered living row with the slot in the rule's column; none in the column of a cancelled call.
     pub fn support(&self, rule: u8, column: u8, slot: u8) -> Answer<Option<u8>> {
         self.memory().support(rule, column, slot)
+    }
+
+    /// Whether the plan, `PLAN` bytes, keeps every rule in force, or else the lowest number of one that it breaks. A plan that uses a struck slot breaks one.
+    pub fn check_plan(&self, plan: &[u8]) -> Answer<PlanCheck> {
+        self.memory().check_plan(plan)
     }
 }

@@ -1,6 +1,6 @@
 /* The worked session of docs/SCOPE.md on a board of a C host, behind it a gap rule that is tried between a mark and a back, and a call that is cancelled: a line for
    each command, as the sheet program writes it, and after puts, lifts, the back and the cancellation the open slots of every call and its figures from the summary
-   table. What was refused, and why, goes to standard error. */
+   table. Three plans are checked on the way. What was refused, and why, goes to standard error. */
 #include "berth.h"
 #include <stdio.h>
 
@@ -30,6 +30,24 @@ static void print_calls(const struct berth_board *board) {
     }
 }
 
+/* A plan from elsewhere: a slot for each of the two calls, BERTH_NONE for a cancelled one, and for those that are not on the board. */
+static void print_plan(const struct berth_board *board, uint8_t first, uint8_t second) {
+    uint8_t plan[BERTH_PLAN];
+    memset(plan, BERTH_NONE, sizeof plan);
+    plan[0] = first;
+    plan[1] = second;
+    struct berth_plan_reply reply = berth_board_check_plan(board, plan, sizeof plan);
+    printf("plan %d %d: ", first, second);
+    if (reply.number != 0) {
+        printf("refused %d\n", reply.number);
+        fprintf(stderr, "refused: %s\n", berth_refusal_text(reply.number));
+    } else if (reply.broken == BERTH_NONE) {
+        printf("kept\n");
+    } else {
+        printf("breaks rule %d\n", reply.broken);
+    }
+}
+
 int main(void) {
     static const uint8_t counts[] = {2, 2}, calls[] = {0, 1}, row_0[] = {0, 0}, row_1[] = {1, 1};
     static struct berth_board board;
@@ -47,6 +65,8 @@ int main(void) {
     print_reply(BERTH_ROW, berth_board_row(&board, row_0, 1));
     print_reply(BERTH_PUT, berth_board_put(&board));
     print_calls(&board);
+    print_plan(&board, 0, 0);
+    print_plan(&board, 1, 1);
     print_reply(BERTH_LIFT, berth_board_lift(&board, 5));
     print_calls(&board);
     print_reply(BERTH_LIFT, berth_board_lift(&board, 5));
@@ -59,6 +79,7 @@ int main(void) {
     print_calls(&board);
     print_reply(BERTH_CANCEL, berth_board_cancel(&board, 1));
     print_calls(&board);
+    print_plan(&board, 1, BERTH_NONE);
     printf("end\n");
     return 0;
 }

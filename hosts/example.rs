@@ -1,9 +1,9 @@
 //! The worked session of docs/SCOPE.md on a board of a Rust host, behind it a gap rule that is tried between a mark and a back, and a call that is cancelled: a line
 //! for each command, as the sheet program writes it, and after puts, lifts, the back and the cancellation the open slots of every call and its figures from the
-//! summary table. What was refused, and why, goes to standard error.
+//! summary table. Three plans are checked on the way. What was refused, and why, goes to standard error.
 mod berth;
 
-use berth::{Answer, Board, Form, Report, Slot};
+use berth::{Answer, Board, Form, PlanCheck, Report, Slot, NONE, PLAN};
 
 fn print_answer(kind: u8, answer: Answer<Report>) {
     match answer {
@@ -33,6 +33,21 @@ fn print_calls(board: &Board) {
     }
 }
 
+/// A plan from elsewhere: a slot for each of the two calls, `NONE` for a cancelled one, and for those that are not on the board.
+fn print_plan(board: &Board, first: u8, second: u8) {
+    let mut plan = [NONE; PLAN];
+    plan[..2].copy_from_slice(&[first, second]);
+    print!("plan {} {}: ", first, second);
+    match board.check_plan(&plan) {
+        Ok(PlanCheck::Kept) => println!("kept"),
+        Ok(PlanCheck::Broken { rule }) => println!("breaks rule {}", rule),
+        Err(refusal) => {
+            println!("refused {}", refusal.number());
+            eprintln!("refused: {}", refusal.text());
+        }
+    }
+}
+
 fn main() {
     let mut board = Board::new();
     print_answer(1, board.start(&[2, 2]));
@@ -45,6 +60,8 @@ fn main() {
     print_answer(3, board.row(&[0]));
     print_answer(4, board.put());
     print_calls(&board);
+    print_plan(&board, 0, 0);
+    print_plan(&board, 1, 1);
     print_answer(5, board.lift(5));
     print_calls(&board);
     print_answer(5, board.lift(5));
@@ -57,5 +74,6 @@ fn main() {
     print_calls(&board);
     print_answer(9, board.cancel(1));
     print_calls(&board);
+    print_plan(&board, 1, NONE);
     println!("end");
 }

@@ -1,6 +1,7 @@
 /* Measures the stack that the library's functions need, which no contract speaks of: a thread paints its stack, sends a command or asks the questions, and
    looks how deep the paint is gone. The board is the largest, and its commands strike, reopen, keep boards, bring them back, cancel calls, and refuse; in the end
-   they are replayed as a file. Fails where it is more than the header says. */
+   they are replayed as a file. The plans that are checked are kept, so every rule is looked at. Fails where it is more than the header says, where not all of the
+   file is run, and where a plan is not kept. */
 #define _XOPEN_SOURCE 700
 #include "berth.h"
 #include <pthread.h>
@@ -15,6 +16,7 @@ static unsigned long commands;
 static uint8_t file[BERTH_FILE];
 static size_t file_length;
 static int replayed;
+static int kept = 1;
 
 /* Paints all of the thread's stack that lies below this function's own frame. */
 static __attribute__((noinline)) void paint(void) {
@@ -49,15 +51,21 @@ static void replay(void) {
     replayed = cleared && reply.ran == commands;
 }
 
+/* The plan has slot 0 of each call that is not cancelled. It is kept: every rule of the session has a row with slot 0 in all columns. */
 static void questions(uint8_t number) {
+    static uint8_t plan[BERTH_PLAN];
     const uint8_t *place = __builtin_frame_address(0);
+    for (uint8_t call = 0; call < BERTH_PLAN; call++)
+        plan[call] = berth_board_slot_state(&board, call, 0).cause == BERTH_SLOT_CANCELLED ? BERTH_NONE : 0;
     paint();
     berth_board_open_slots(&board, number);
     berth_board_slot_state(&board, number, 31);
     berth_board_row_state(&board, number, 31);
     berth_board_row_bytes(&board, number, 31);
     berth_board_support(&board, number, 0, 31);
+    struct berth_plan_reply reply = berth_board_check_plan(&board, plan, sizeof plan);
     look(place);
+    kept = kept && reply.broken == BERTH_NONE;
 }
 
 /* A rule with as many rows as the slots given: the same slot in each column. */
@@ -142,5 +150,5 @@ int main(void) {
     if (!berth_board_clear(&board) || pthread_create(&thread, &attributes, session, NULL) != 0 || pthread_join(thread, NULL) != 0)
         return 1;
     printf("stack: %zu bytes at most over %lu commands; the header says %d\n", deepest, commands, BERTH_STACK);
-    return deepest > BERTH_STACK || !replayed;
+    return deepest > BERTH_STACK || !replayed || !kept;
 }

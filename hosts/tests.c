@@ -118,6 +118,52 @@ static void build(void) {
     same("no slots", berth_make_row(NULL, 0).bytes[1], 255);
 }
 
+static void same_check(const char *what, struct berth_plan_reply found, int number, int broken) {
+    same(what, found.number, number);
+    same(what, found.broken, broken);
+}
+
+/* The buffers that questions are lent, in another order than a board's, and a plan; with room for a byte more of each buffer, and for more of the plan. */
+struct lent_plan {
+    uint8_t plan[BERTH_PLAN + 256];
+    uint8_t slots[BERTH_SLOTS + 1];
+    uint8_t killers[BERTH_KILLERS + 1];
+    uint8_t rows[BERTH_ROWS + 1];
+};
+
+static void lend_buffers(struct lent_plan *lent, const struct berth_board *board) {
+    memcpy(lent->rows, board->rows, BERTH_ROWS);
+    memcpy(lent->killers, board->killers, BERTH_KILLERS);
+    memcpy(lent->slots, board->slots, BERTH_SLOTS);
+}
+
+/* A plan with these slots, and BERTH_NONE for the calls past them, gets this reply: from the board, and where a copy of it is lent. Nothing changes. */
+static void same_reply(const char *what, const struct berth_board *board, const uint8_t *slots, size_t calls, int number, int broken) {
+    static struct berth_board before;
+    static struct lent_plan lent, all;
+    lend_buffers(&lent, board);
+    memset(lent.plan, BERTH_NONE, sizeof lent.plan);
+    memcpy(lent.plan, slots, calls);
+    before = *board;
+    all = lent;
+    same_check(what, berth_board_check_plan(board, lent.plan, BERTH_PLAN), number, broken);
+    same_check(what, berth_check_plan(board->value.value, BERTH_BUFFERS(&lent), lent.plan, BERTH_PLAN), number, broken);
+    same("board after a plan", memcmp(board, &before, sizeof before), 0);
+    same("memory that was lent with a plan", memcmp(&lent, &all, sizeof all), 0);
+}
+
+static void same_kept(const char *what, const struct berth_board *board, const uint8_t *slots, size_t calls) {
+    same_reply(what, board, slots, calls, 0, BERTH_NONE);
+}
+
+static void same_broken(const char *what, const struct berth_board *board, const uint8_t *slots, size_t calls, uint8_t rule) {
+    same_reply(what, board, slots, calls, 0, rule);
+}
+
+static void same_bad_byte(const char *what, const struct berth_board *board, const uint8_t *slots, size_t calls) {
+    same_reply(what, board, slots, calls, BERTH_BAD_PLAN_BYTE, 254);
+}
+
 static void ask(const struct berth_board *board) {
     same("mask", berth_board_open_slots(board, 1).mask, 1);
     same("ones", berth_board_open_slots(board, 1).ones, 1);
@@ -138,6 +184,11 @@ static void ask(const struct berth_board *board) {
     same("no support", berth_board_support(board, 0, 1, 1).row, BERTH_NONE);
     same("no column", berth_board_support(board, 5, 1, 0).number, BERTH_NO_SUCH_COLUMN);
     same("rule not in force", berth_board_support(board, 9, 0, 0).number, BERTH_NOT_IN_FORCE);
+    same_kept("plan of open slots", board, (const uint8_t[]){0, 0}, 2);
+    same_broken("plan of struck slots", board, (const uint8_t[]){1, 1}, 2, 5);
+    same_broken("plan against rule 0", board, (const uint8_t[]){0, 1}, 2, 0);
+    same_broken("plan against both rules", board, (const uint8_t[]){1, 0}, 2, 0);
+    same_bad_byte("plan without a slot for call 1", board, (const uint8_t[]){0}, 1);
 }
 
 /* Of rows with the slot in the column, the lowest that lives is given: row 1 where all three live, row 2 while row 1 is dead. */
@@ -669,6 +720,171 @@ static void touch_to_the_slot(struct berth_board *board) {
     same("what it leaves open", berth_board_open_slots(board, 1).mask, 1);
 }
 
+/* Two rules on three calls, put by falling number, and a draft, which is not in force. Where a plan breaks both rules the lower number is named, whichever was put
+   first. A plan with a struck slot breaks a rule; the one that is named may be on other calls. */
+static void check_plans(struct berth_board *board) {
+    static const uint8_t struck[] = {2, 0, 1}, struck_and_broken[] = {2, 0, 2};
+    same("board", berth_board_start(board, (const uint8_t[]){3, 2, 4}, 3).number, 0);
+    same_kept("plan without rules", board, (const uint8_t[]){2, 1, 0}, 3);
+    same_put(board, 7, (const uint8_t[]){0, 1}, 2, (const uint8_t[]){0, 0, 1, 1}, 2, 1);
+    same_put(board, 3, (const uint8_t[]){1, 2}, 2, (const uint8_t[]){0, 1, 1, 2, 1, 3}, 3, 1);
+    same("head", berth_board_head(board, 0, (const uint8_t[]){0}, 1).number, 0);
+    same_kept("kept plan", board, (const uint8_t[]){0, 0, 1}, 3);
+    same_kept("kept plan of last rows", board, (const uint8_t[]){1, 1, 3}, 3);
+    same_broken("plan against the rule that was put first", board, (const uint8_t[]){0, 1, 2}, 3, 7);
+    same_broken("plan against the rule that was put last", board, (const uint8_t[]){0, 0, 2}, 3, 3);
+    same_broken("plan against both", board, (const uint8_t[]){0, 1, 1}, 3, 3);
+    same("struck slot", berth_board_slot_state(board, 0, 2).cause, 7);
+    same_broken("plan with a struck slot", board, struck, 3, 7);
+    same_broken("plan with a struck slot and against a rule on other calls", board, struck_and_broken, 3, 3);
+    same_report("lift", berth_board_lift(board, 3), 0, 1, 1);
+    same_broken("plan against the other rule", board, struck_and_broken, 3, 7);
+    same_report("lift", berth_board_lift(board, 7), 0, 1, 1);
+    same_kept("plan without rules again", board, struck_and_broken, 3);
+}
+
+/* 64 rules that want the same slot of two neighbours. Of those in force that a plan breaks the lowest is named, whichever number that is. */
+static void check_all_rules(struct berth_board *board) {
+    uint8_t counts[32], plan[BERTH_PLAN];
+    memset(counts, 2, sizeof counts);
+    same("board", berth_board_start(board, counts, 32).number, 0);
+    for (uint8_t number = 0; number < 64; number++) {
+        same("gap", berth_board_gap(board, BERTH_SAME, number, number % 32, (number + 1) % 32, 0).number, 0);
+        same("put", berth_board_put(board).number, 0);
+    }
+    for (uint8_t call = 0; call < 32; call++) {
+        memset(plan, 1, sizeof plan);
+        same_kept("plan of equal slots", board, plan, 32);
+        plan[call] = 0;
+        same_broken("plan with one other slot", board, plan, 32, call == 0 ? 0 : call - 1);
+    }
+    for (uint8_t call = 0; call < 32; call++)
+        plan[call] = call % 2;
+    for (uint8_t number = 0; number < 64; number++) {
+        same_broken("plan against all rules", board, plan, 32, number);
+        same("lift", berth_board_lift(board, number).number, 0);
+    }
+    same_kept("plan without rules", board, plan, 32);
+}
+
+/* A rule wants the same slot of four calls, and any of them are cancelled: their columns are not compared, and a plan has no slot for them. Where all four are, the
+   rule asks nothing. */
+static void check_cancelled_columns(struct berth_board *board) {
+    for (int cancelled = 0; cancelled < 16; cancelled++) {
+        same("board", berth_board_start(board, (const uint8_t[]){2, 2, 2, 2}, 4).number, 0);
+        same_put(board, 9, (const uint8_t[]){0, 1, 2, 3}, 4, (const uint8_t[]){0, 0, 0, 0, 1, 1, 1, 1}, 2, 0);
+        for (uint8_t call = 0; call < 4; call++)
+            if (cancelled >> call & 1)
+                same_report("cancel", berth_board_cancel(board, call), 0, 0, 0);
+        for (int slots = 0; slots < 16; slots++) {
+            int rest = 15 & ~cancelled, ones = slots & rest;
+            uint8_t plan[4];
+            for (int call = 0; call < 4; call++)
+                plan[call] = (uint8_t)(slots >> call & 1);
+            if (cancelled)
+                same_bad_byte("plan with a slot for a cancelled call", board, plan, 4);
+            for (int call = 0; call < 4; call++)
+                plan[call] = cancelled >> call & 1 ? BERTH_NONE : plan[call];
+            if (ones == 0 || ones == rest)
+                same_kept("plan of equal slots beside cancelled calls", board, plan, 4);
+            else
+                same_broken("plan of other slots beside cancelled calls", board, plan, 4, 9);
+        }
+    }
+}
+
+/* A rule without rows is broken by every plan as long as one of its calls is not cancelled, and by none when both are. */
+static void check_without_rows(struct berth_board *board) {
+    same("board", berth_board_start(board, (const uint8_t[]){2, 3}, 2).number, 0);
+    same_put(board, 4, (const uint8_t[]){0, 1}, 2, NULL, 0, 5);
+    for (uint8_t first = 0; first < 2; first++)
+        for (uint8_t second = 0; second < 3; second++)
+            same_broken("plan against a rule without rows", board, (const uint8_t[]){first, second}, 2, 4);
+    same_report("cancel", berth_board_cancel(board, 0), 0, 0, 0);
+    for (uint8_t second = 0; second < 3; second++)
+        same_broken("plan beside a cancelled call of it", board, (const uint8_t[]){BERTH_NONE, second}, 2, 4);
+    same_report("cancel", berth_board_cancel(board, 1), 0, 0, 0);
+    same_kept("plan where all its calls are cancelled", board, (const uint8_t[]){BERTH_NONE, BERTH_NONE}, 2);
+}
+
+/* Any byte for any call: of a call that is not cancelled its slots are taken, struck or not, and of all others 255 alone. */
+static void check_bytes(struct berth_board *board) {
+    static const int counts[32] = {3, 0, 32, 1}; /* of a cancelled call none */
+    static struct berth_board before;
+    same("board", berth_board_start(board, (const uint8_t[]){3, 2, 32, 1}, 4).number, 0);
+    same_put(board, 8, (const uint8_t[]){0}, 1, (const uint8_t[]){1}, 1, 2);
+    same_report("cancel", berth_board_cancel(board, 1), 0, 0, 0);
+    before = *board;
+    for (int call = 0; call < BERTH_PLAN; call++)
+        for (int byte = 0; byte < 256; byte++) {
+            uint8_t plan[BERTH_PLAN] = {1, BERTH_NONE, 0, 0};
+            memset(plan + 4, BERTH_NONE, sizeof plan - 4);
+            plan[call] = (uint8_t)byte;
+            struct berth_plan_reply reply = berth_board_check_plan(board, plan, BERTH_PLAN);
+            if (counts[call] == 0 ? byte != BERTH_NONE : byte >= counts[call])
+                same_check("plan with a wrong byte", reply, BERTH_BAD_PLAN_BYTE, 254);
+            else
+                same_check("plan without a wrong byte", reply, 0, call == 0 && byte != 1 ? 8 : BERTH_NONE);
+        }
+    same("board after the plans", memcmp(board, &before, sizeof before), 0);
+}
+
+/* Each refusal of a plan comes before the next, on a board and without one. Every plan of one byte alone is wrong on the board; one that is kept there is refused for
+   its length. */
+static void refuse_plans(struct berth_board *board) {
+    static const size_t lengths[] = {0, 1, 31, BERTH_PLAN, 33, 64, BERTH_PLAN + 256}, sizes[3] = {BERTH_ROWS, BERTH_KILLERS, BERTH_SLOTS};
+    static const uint8_t bytes[] = {0, 32, 254, 255};
+    static struct lent_plan lent, all;
+    same("clear", berth_board_clear(board), 1);
+    for (int started = 0; started < 2; started++) {
+        if (started)
+            make_board(board);
+        for (size_t i = 0; i < sizeof bytes * (sizeof lengths / sizeof *lengths); i++) {
+            size_t length = lengths[i / sizeof bytes];
+            int number = length != BERTH_PLAN ? BERTH_PLAN_LENGTH : started ? BERTH_BAD_PLAN_BYTE : BERTH_NO_BOARD;
+            lend_buffers(&lent, board);
+            memset(lent.plan, bytes[i % sizeof bytes], sizeof lent.plan);
+            all = lent;
+            same_check("refused plan", berth_board_check_plan(board, lent.plan, length), number, 254);
+            same_check("refused plan", berth_check_plan(board->value.value, BERTH_BUFFERS(&lent), lent.plan, length), number, 254);
+            for (int part = 0; part < 3; part++)
+                for (int wrong = 0; wrong < 3; wrong++) {
+                    size_t n[3] = {sizes[0], sizes[1], sizes[2]};
+                    n[part] = wrong == 0 ? 0 : wrong == 1 ? n[part] - 1 : n[part] + 1;
+                    struct berth_plan_reply reply =
+                        berth_check_plan(board->value.value, lent.rows, n[0], lent.killers, n[1], lent.slots, n[2], lent.plan, length);
+                    same_check("buffer before the plan", reply, BERTH_BUFFER_LENGTH, 254);
+                }
+            same("memory that was lent with a refused plan", memcmp(&lent, &all, sizeof all), 0);
+        }
+    }
+    memset(lent.plan, BERTH_NONE, sizeof lent.plan);
+    lent.plan[0] = lent.plan[1] = 0;
+    for (size_t i = 0; i < sizeof lengths / sizeof *lengths; i++) {
+        int fits = lengths[i] == BERTH_PLAN;
+        struct berth_plan_reply reply = berth_board_check_plan(board, lent.plan, lengths[i]);
+        same_check("plan of each length", reply, fits ? 0 : BERTH_PLAN_LENGTH, fits ? BERTH_NONE : 254);
+    }
+}
+
+/* A plan that is kept at a mark is broken by a rule that is put then, and wrong when a call is cancelled; after a back it is kept again. */
+static void check_after_back(struct berth_board *board) {
+    static const uint8_t plan[] = {0, 0}, after_cancel[] = {0, BERTH_NONE};
+    same("clear", berth_board_clear(board), 1);
+    make_board(board);
+    same("mark", berth_board_mark(board, 0).number, 0);
+    same_put(board, 9, (const uint8_t[]){1}, 1, (const uint8_t[]){1}, 1, 2);
+    same_broken("plan from before the mark", board, plan, 2, 9);
+    same("back", berth_board_back(board, 0).number, 0);
+    same_kept("plan after a back", board, plan, 2);
+    same("cancel", berth_board_cancel(board, 1).number, 0);
+    same_bad_byte("plan from before a cancel", board, plan, 2);
+    same_kept("plan after a cancel", board, after_cancel, 2);
+    same("back", berth_board_back(board, 0).number, 0);
+    same_kept("plan after another back", board, plan, 2);
+    same_bad_byte("plan from before the back", board, after_cancel, 2);
+}
+
 /* A command on a board of any contents writes nothing beside the value, the names, the marks and the table that it is lent, and of names and marks no more than
    it has to; refused, it writes nothing at all. A cancel leaves the value and the rows. */
 static void obey_altered(struct berth_board *board, struct berth_command_bytes made) {
@@ -717,10 +933,31 @@ static void obey_altered(struct berth_board *board, struct berth_command_bytes m
     }
 }
 
+/* A plan on a board of any contents is kept, breaks a rule, or is refused. */
+static struct berth_plan_reply check_altered(const struct berth_board *board, const uint8_t *plan) {
+    struct berth_plan_reply reply = berth_board_check_plan(board, plan, BERTH_PLAN);
+    if (reply.number == 0)
+        same("reply to a plan on an altered board", reply.broken == BERTH_NONE || reply.broken < 64, 1);
+    else
+        same("refused plan on an altered board", reply.broken, 254);
+    return reply;
+}
+
+/* A plan with no wrong byte, whatever the board holds: this slot, or the last of a call that does not have it. */
+static void make_plan(const struct berth_board *board, uint8_t slot, uint8_t *plan) {
+    for (uint8_t call = 0; call < BERTH_PLAN; call++) {
+        uint8_t count = board->value.value.heads.counts[call];
+        plan[call] = slot < count ? slot : count - 1; /* BERTH_NONE where the count is 0 */
+        if (berth_board_slot_state(board, call, 0).cause == BERTH_SLOT_CANCELLED)
+            plan[call] = BERTH_NONE;
+    }
+}
+
 /* The questions on a board of any contents write nothing. */
 static void ask_altered(const struct berth_board *board) {
     static const uint8_t numbers[] = {0, 1, 31, 63, 255};
     static struct berth_board before;
+    uint8_t plan[BERTH_PLAN];
     before = *board;
     for (size_t i = 0; i < sizeof numbers; i++) {
         uint8_t number = numbers[i];
@@ -729,6 +966,10 @@ static void ask_altered(const struct berth_board *board) {
         berth_board_row_state(board, number, 63);
         berth_board_row_bytes(board, number, 63);
         berth_board_support(board, number, 3, 31);
+        memset(plan, number, sizeof plan);
+        check_altered(board, plan);
+        make_plan(board, number, plan);
+        same("plan without a wrong byte", check_altered(board, plan).number, board->value.value.heads.counts[0] == 0 ? BERTH_NO_BOARD : 0);
     }
     same("an altered board that is asked", memcmp(board, &before, sizeof before), 0);
 }
@@ -820,6 +1061,30 @@ static void strew_cancelled(void) {
     same_fence(&fenced);
 }
 
+/* The host writes counts, arities, calls and lengths that do not go together, and any rows and killers; every third call is cancelled. Questions return and write
+   nothing. */
+static void mix_heads(void) {
+    static const uint8_t bytes[] = {0, 31, 200, 255};
+    static struct fenced fenced;
+    struct berth_board *board = &fenced.board;
+    struct berth_heads *heads = &board->value.value.heads;
+    raise_fence(&fenced);
+    same("clear", berth_board_clear(board), 1);
+    memset(board->slots, BERTH_SLOT_OPEN, sizeof board->slots);
+    for (int call = 0; call < 32; call += 3)
+        memset(board->slots + 32 * call, BERTH_SLOT_CANCELLED, 32);
+    for (int mix = 0; mix < 1024; mix++) {
+        memset(heads->counts, bytes[mix & 3], sizeof heads->counts);
+        memset(heads->arity, bytes[mix >> 2 & 3], sizeof heads->arity);
+        memset(heads->scope, bytes[mix >> 4 & 3], sizeof heads->scope);
+        memset(heads->lengths, bytes[mix >> 6 & 3], sizeof heads->lengths);
+        memset(board->rows, bytes[mix >> 8], sizeof board->rows);
+        memset(board->killers, bytes[mix >> 8], sizeof board->killers);
+        ask_altered(board);
+    }
+    same_fence(&fenced);
+}
+
 /* A file leaves what its commands leave one by one, up to one that cannot be read; one that is too long changes nothing. */
 static void replay(struct berth_board *board) {
     static const uint8_t lift_without_board[] = {5, 9, 4, 0};
@@ -898,6 +1163,7 @@ int main(int words, char **word) {
     alter_board();
     alter_marks();
     strew_cancelled();
+    mix_heads();
     replay(board);
     support_lowest(board);
     draft_gaps(board);
@@ -909,6 +1175,13 @@ int main(int words, char **word) {
     refuse_cancelled(board);
     cancel_without_rows(board);
     touch_to_the_slot(board);
+    check_plans(board);
+    check_all_rules(board);
+    check_cancelled_columns(board);
+    check_without_rows(board);
+    check_bytes(board);
+    refuse_plans(board);
+    check_after_back(board);
     same_fence(&fenced);
     printf("header: %s\n", failed ? "FAILED" : "every function answers from C as it should");
     return failed;

@@ -4,10 +4,10 @@
 mod berth;
 
 use berth::{
-    lent, Board, Draft, Form, Heads, MarkedValue, Name, OpenSlots, Refusal, Replay, Report, Row, Rule, Slot, Summary,
-    Value,
+    lent, Answer, Board, Draft, Form, Heads, MarkedValue, Name, OpenSlots, PlanCheck, Refusal, Replay, Report, Row,
+    Rule, Slot, Summary, Value,
 };
-use berth::{KILLERS, MARKS, RECORDS, ROWS, SLOTS};
+use berth::{KILLERS, MARKS, NONE, PLAN, RECORDS, ROWS, SLOTS};
 
 fn record(open: u8, struck: u8, rules: u8) -> Summary {
     Summary { open, struck, rules }
@@ -47,6 +47,28 @@ fn summarise(board: &Board) {
     assert_eq!([32, 255].map(|call| board.summary(call)), [Summary::default(); 2]);
 }
 
+/// A plan with these slots, and none for the calls past them.
+fn plan(slots: &[u8]) -> [u8; PLAN] {
+    std::array::from_fn(|call| slots.get(call).copied().unwrap_or(NONE))
+}
+
+/// The answer to that plan, from the board and from a copy of it that is lent, which is the same. Nothing changes.
+fn check(board: &Board, slots: &[u8]) -> Answer<PlanCheck> {
+    let parts = Parts::of(board, board.summaries());
+    let answer = board.check_plan(&plan(slots));
+    assert!(parts.same(board) && parts.table() == board.summaries(), "a plan changes the board");
+    assert_eq!(parts.memory().check_plan(&plan(slots)), answer);
+    assert!(parts.same(board) && parts.table() == board.summaries(), "a plan changes what is lent");
+    answer
+}
+
+const KEPT: Answer<PlanCheck> = Ok(PlanCheck::Kept);
+const BAD_BYTE: Answer<PlanCheck> = Err(Refusal::BadPlanByte);
+
+const fn broken(rule: u8) -> Answer<PlanCheck> {
+    Ok(PlanCheck::Broken { rule })
+}
+
 fn ask(board: &Board) {
     let open = board.open_slots(1).unwrap();
     assert_eq!((open.mask, open.ones), (1, 1));
@@ -62,6 +84,8 @@ fn ask(board: &Board) {
     assert_eq!(board.support(0, 1, 0), Ok(Some(0)));
     assert_eq!(board.support(0, 1, 1), Ok(None));
     assert_eq!(board.support(5, 1, 0), Err(Refusal::NoSuchColumn));
+    let plans = [[0, 0], [1, 1], [0, 1], [1, 0], [0, NONE]];
+    assert_eq!(plans.map(|slots| check(board, &slots)), [KEPT, broken(5), broken(0), broken(0), BAD_BYTE]);
 }
 
 /// Of rows with the slot in the column, the lowest that lives is given: row 1 where all three live, row 2 while row 1 is dead.
@@ -230,6 +254,11 @@ impl Parts {
         let [_, marks @ .., _] = &mut fenced_marks[..] else { unreachable!() };
         let [_, table @ .., _] = &mut fenced[..] else { unreachable!() };
         lent::fresh_board(value, names, rows, killers, slots, marks, table).map_or_else(Refusal::number, |_| 0)
+    }
+
+    /// What questions are asked of.
+    fn memory(&self) -> lent::Memory<'_> {
+        lent::Memory { value: &self.value.value, rows: &self.rows, killers: &self.killers, slots: &self.slots }
     }
 
     /// The value, the names and the buffers are the board's.
@@ -523,6 +552,144 @@ fn touch_to_the_slot() {
     assert_eq!((board.cancel(0), masks(&board)), (Ok(report(0, 0, 1)), [0, 1]));
 }
 
+/// Two rules on three calls, put by falling number, and a draft, which is not in force. Where a plan breaks both rules the lower number is named, whichever was
+/// put first. A plan with a struck slot breaks a rule; the one that is named may be on other calls.
+fn check_plans() {
+    let mut board = Board::new();
+    board.start(&[3, 2, 4]).unwrap();
+    assert_eq!(check(&board, &[2, 1, 0]), KEPT);
+    put(&mut board, 7, &[0, 1], &[&[0, 0], &[1, 1]], 1);
+    put(&mut board, 3, &[1, 2], &[&[0, 1], &[1, 2], &[1, 3]], 1);
+    board.head(0, &[0]).unwrap();
+    assert_eq!([[0, 0, 1], [1, 1, 3]].map(|slots| check(&board, &slots)), [KEPT; 2]);
+    let plans = [[0, 1, 2], [0, 0, 2], [0, 1, 1]];
+    assert_eq!(plans.map(|slots| check(&board, &slots)), [7, 3, 3].map(broken));
+    assert_eq!(board.slot_state(0, 2), Ok(Slot::Struck { cause: 7 }));
+    assert_eq!([[2, 0, 1], [2, 0, 2]].map(|slots| check(&board, &slots)), [7, 3].map(broken));
+    assert_eq!((board.lift(3), check(&board, &[2, 0, 2])), (Ok(report(0, 1, 1)), broken(7)));
+    assert_eq!((board.lift(7), check(&board, &[2, 0, 2])), (Ok(report(0, 1, 1)), KEPT));
+}
+
+/// 64 rules that want the same slot of two neighbours. Of those in force that a plan breaks the lowest is named, whichever number that is.
+fn check_all_rules() {
+    let mut board = Board::new();
+    board.start(&[2; 32]).unwrap();
+    for number in 0..64 {
+        board.gap(Form::Same, number, number % 32, (number + 1) % 32, 0).unwrap();
+        assert_eq!(board.put(), Ok(Report::default()));
+    }
+    assert_eq!([0, 1].map(|slot| check(&board, &[slot; 32])), [KEPT; 2]);
+    for call in 0..32 {
+        let mut slots = [1; 32];
+        slots[call] = 0;
+        assert_eq!(check(&board, &slots), broken(call.saturating_sub(1) as u8));
+    }
+    let slots: [u8; 32] = std::array::from_fn(|call| call as u8 % 2);
+    for number in 0..64 {
+        assert_eq!(check(&board, &slots), broken(number));
+        board.lift(number).unwrap();
+    }
+    assert_eq!(check(&board, &slots), KEPT);
+}
+
+/// A rule wants the same slot of four calls, and any of them are cancelled: their columns are not compared, and a plan has no slot for them. Where all four are,
+/// the rule asks nothing.
+fn check_cancelled_columns() {
+    for cancelled in 0..16 {
+        let gone = |call: &u8| cancelled >> call & 1 == 1;
+        let mut board = Board::new();
+        board.start(&[2; 4]).unwrap();
+        put(&mut board, 9, &[0, 1, 2, 3], &[&[0; 4], &[1; 4]], 0);
+        (0..4).filter(gone).for_each(|call| assert_eq!(board.cancel(call), Ok(Report::default())));
+        for bits in 0..16 {
+            let slots = [0, 1, 2, 3].map(|call| bits >> call & 1);
+            assert!(cancelled == 0 || check(&board, &slots) == BAD_BYTE);
+            let rest: Vec<u8> = (0..4).filter(|call| !gone(call)).map(|call| slots[call as usize]).collect();
+            let slots = [0, 1, 2, 3].map(|call| if gone(&call) { NONE } else { slots[call as usize] });
+            let due = if rest.windows(2).all(|two| two[0] == two[1]) { KEPT } else { broken(9) };
+            assert_eq!(check(&board, &slots), due, "{slots:?}");
+        }
+    }
+}
+
+/// A rule without rows is broken by every plan as long as one of its calls is not cancelled, and by none when both are.
+fn check_without_rows() {
+    let mut board = Board::new();
+    board.start(&[2, 3]).unwrap();
+    put(&mut board, 4, &[0, 1], &[], 5);
+    for second in 0..3 {
+        assert_eq!([0, 1].map(|first| check(&board, &[first, second])), [broken(4); 2]);
+    }
+    board.cancel(0).unwrap();
+    assert_eq!([0, 1, 2].map(|second| check(&board, &[NONE, second])), [broken(4); 3]);
+    board.cancel(1).unwrap();
+    assert_eq!(check(&board, &[]), KEPT);
+}
+
+/// Any byte for any call: of a call that is not cancelled its slots are taken, struck or not, and of all others 255 alone.
+fn check_bytes() {
+    let mut board = Board::new();
+    board.start(&[3, 2, 32, 1]).unwrap();
+    put(&mut board, 8, &[0], &[&[1]], 2);
+    board.cancel(1).unwrap();
+    let before = Parts::of(&board, board.summaries());
+    for (call, byte) in (0..PLAN).flat_map(|call| (0..=255).map(move |byte| (call, byte))) {
+        let mut bytes = plan(&[1, NONE, 0, 0]);
+        bytes[call] = byte;
+        let due = match (call, byte) {
+            (0, 0 | 2) => broken(8),
+            (0, 1) | (2, 0..=31) | (3, 0) => KEPT,
+            (1 | 4.., NONE) => KEPT,
+            _ => BAD_BYTE,
+        };
+        assert_eq!(board.check_plan(&bytes), due, "byte {byte} for call {call}");
+    }
+    assert!(before.same(&board) && before.table() == board.summaries());
+}
+
+/// Each refusal of a plan comes before the next, on a board and without one. Every plan of one byte alone is wrong on the board; one that is kept there is
+/// refused for its length.
+fn refuse_plans() {
+    let sizes = [ROWS, KILLERS, SLOTS];
+    let wrong = [0, 1, 2].map(|part| [0, sizes[part] - 1, sizes[part] + 1].map(|wrong| (part, wrong))).concat();
+    let board = board();
+    for (asked, due) in [(&Board::new(), Refusal::NoBoard), (&board, Refusal::BadPlanByte)] {
+        for (length, byte) in
+            [0, 1, 31, 32, 33, 64, 288].map(|length| [0, 32, 254, 255].map(|byte| (length, byte))).concat()
+        {
+            let plan = vec![byte; length];
+            let due = if length == PLAN { due } else { Refusal::PlanLength };
+            let parts = Parts::of(asked, asked.summaries());
+            assert_eq!(asked.check_plan(&plan), Err(due), "{length} bytes {byte}");
+            assert_eq!(parts.memory().check_plan(&plan), Err(due), "{length} bytes {byte}");
+            for &(part, wrong) in &wrong {
+                let [rows, killers, slots] =
+                    [0, 1, 2].map(|other| vec![255; if other == part { wrong } else { sizes[other] }]);
+                let memory = lent::Memory { rows: &rows, killers: &killers, slots: &slots, ..asked.memory() };
+                assert_eq!(memory.check_plan(&plan), Err(Refusal::BufferLength), "{length} bytes {byte}");
+            }
+            assert!(parts.same(asked) && parts.table() == asked.summaries() && plan == vec![byte; length]);
+        }
+    }
+    let long = [&plan(&[0, 0])[..], &[NONE; 256]].concat();
+    assert_eq!([0, 31, 33, 288].map(|length| board.check_plan(&long[..length])), [Err(Refusal::PlanLength); 4]);
+    assert_eq!(board.check_plan(&long[..PLAN]), KEPT);
+}
+
+/// A plan that is kept at a mark is broken by a rule that is put then, and wrong when a call is cancelled; after a back it is kept again.
+fn check_after_back() {
+    let mut board = board();
+    board.mark(0).unwrap();
+    put(&mut board, 9, &[1], &[&[1]], 2);
+    assert_eq!(check(&board, &[0, 0]), broken(9));
+    board.back(0).unwrap();
+    assert_eq!(check(&board, &[0, 0]), KEPT);
+    board.cancel(1).unwrap();
+    assert_eq!([[0, 0], [0, NONE]].map(|slots| check(&board, &slots)), [BAD_BYTE, KEPT]);
+    board.back(0).unwrap();
+    assert_eq!([[0, 0], [0, NONE]].map(|slots| check(&board, &slots)), [KEPT, BAD_BYTE]);
+}
+
 /// Heads that hold nothing but this byte, and a whole value.
 fn heads_of(byte: u8) -> Heads {
     Heads { counts: [byte; 32], arity: [byte; 64], scope: [byte; 256], lengths: [byte; 64] }
@@ -544,6 +711,29 @@ fn filled(kept: &Parts, byte: u8) -> [Parts; 5] {
     let mut all = Parts { value: value_of(byte), ..buffers.clone() };
     all.marks_mut().fill(byte);
     [Parts { value: named, ..kept.clone() }, Parts { value: named, ..marks.clone() }, buffers, marks, all]
+}
+
+/// On altered memory a plan is kept, breaks a rule, or is refused for no board or a wrong byte, and nothing is written. The second plan has no wrong byte,
+/// whatever the memory holds: this slot of each call, or its last.
+fn check_altered(parts: &Parts) {
+    let (before, memory) = (parts.clone(), parts.memory());
+    for slot in [0, 1, 31, 63, 255] {
+        let slots: [u8; PLAN] = std::array::from_fn(|call| match memory.value.heads.counts[call] {
+            0 => NONE,
+            _ if memory.slot_state(call as u8, 0) == Ok(Slot::Cancelled) => NONE,
+            count => slot.min(count - 1),
+        });
+        let answers = [[slot; PLAN], slots].map(|plan| memory.check_plan(&plan));
+        for answer in answers {
+            let possible = match answer {
+                Ok(PlanCheck::Broken { rule }) => rule < 64,
+                _ => [KEPT, BAD_BYTE, Err(Refusal::NoBoard)].contains(&answer),
+            };
+            assert!(possible, "{answer:?}");
+        }
+        assert_ne!(answers[1], BAD_BYTE, "{slots:?}");
+    }
+    assert!(*parts == before, "a plan changes altered memory");
 }
 
 /// On altered memory commands return and leave the fences, and only a mark writes names and marks; a cancellation leaves the value and the rows; one that is
@@ -576,6 +766,7 @@ fn obey_altered(parts: &mut Parts) {
         let mut due = parts.clone();
         let number = parts.command(bytes);
         parts.table();
+        check_altered(parts);
         assert!(number == 0 || *parts == due, "{bytes:?} is refused {number}, and changes something");
         match (number, bytes) {
             (0, [7, name]) => due.keep_under(*name as usize),
@@ -654,6 +845,21 @@ fn strew_cancelled(board: &Board) {
     }
 }
 
+/// A host writes counts, arities, calls and lengths that do not go together, and any rows and killers; every third call is cancelled.
+fn mix_heads(board: &Board) {
+    let bytes = [0, 31, 200, 255];
+    let mut parts = Parts::of(board, board.summaries());
+    parts.slots = (0..SLOTS).map(|place| if place / 32 % 3 == 0 { 253 } else { 255 }).collect();
+    for mix in 0..1024 {
+        let part = |place: usize| bytes[mix >> (2 * place) & 3];
+        let heads = &mut parts.value.value.heads;
+        *heads = Heads { counts: [part(0); 32], arity: [part(1); 64], scope: [part(2); 256], lengths: [part(3); 64] };
+        parts.rows.fill(part(4));
+        parts.killers.fill(part(4));
+        check_altered(&parts);
+    }
+}
+
 /// A file leaves what its commands leave one by one, up to one that cannot be read; one that is too long changes nothing.
 fn replay(board: &mut Board) {
     let start = [&[1, 2, 2][..], &[0; 30]].concat();
@@ -700,7 +906,7 @@ fn name() {
     for number in 0..=255 {
         let refusal = Refusal::from_number(number);
         assert_eq!(refusal.number(), number);
-        assert_eq!(matches!(refusal, Refusal::Other(_)), !(1..=29).contains(&number), "{refusal:?}");
+        assert_eq!(matches!(refusal, Refusal::Other(_)), !matches!(number, 1..=29 | 32 | 33), "{refusal:?}");
     }
     assert_eq!(Refusal::NotInForce.to_string(), "refused 17: no rule of this number is in force");
     assert_eq!(Refusal::Other(99).to_string(), "refused 99: no refusal has this number");
@@ -733,6 +939,7 @@ fn main() {
     refuse_marks(&board);
     alter(&board);
     strew_cancelled(&board);
+    mix_heads(&board);
     replay(&mut board);
     support_lowest();
     draft_gaps();
@@ -743,6 +950,13 @@ fn main() {
     refuse_cancelled();
     cancel_without_rows();
     touch_to_the_slot();
+    check_plans();
+    check_all_rules();
+    check_cancelled_columns();
+    check_without_rows();
+    check_bytes();
+    refuse_plans();
+    check_after_back();
     name();
     println!("wrapper: every function answers from Rust as it should");
 }

@@ -1,14 +1,16 @@
 //! Commands and questions on memory with any contents and of any lengths: every call returns, nothing outside of it changes, a refusal changes nothing, and
 //! marks are written and brought back as ever; a cancellation leaves what it always leaves. (host.rs asserts it of each command.) A new board has its table
-//! then, too.
+//! then, too. A plan gets the reply that the bytes give it.
 
+use crate::berth::lent::Memory;
 use crate::berth::{MarkedValue, Slot, Summary};
 use crate::filter::all_slots;
-use crate::host::{number_of, Fenced, Host};
+use crate::host::{number_of, Fenced, Host, PlanReply};
 use crate::ledger::{Ledger, BACK, BOARD, CANCEL, LAST_KIND, LENGTHS, LIFT, MARK, PUT};
 use crate::random::Random;
 use crate::summary::{self, table_of};
 use crate::writer::{any_command, any_gap_rule, board, some_name, SIZES};
+use std::collections::BTreeMap;
 
 const HOSTS: u64 = 6000;
 const COMMANDS: usize = 6;
@@ -121,9 +123,81 @@ fn some_command(random: &mut Random) -> Vec<u8> {
     }
 }
 
+/// How many slots a call has in a plan: none where the byte of its first slot says that it is cancelled.
+fn slots_for(memory: Memory, call: usize) -> u8 {
+    match memory.slots.get(32 * call) {
+        Some(253) => 0,
+        _ => memory.value.heads.counts[call],
+    }
+}
+
+/// The columns of rule p that count, each with its call: those up to its arity whose calls are not cancelled.
+fn columns_of(memory: Memory, p: usize) -> Vec<(usize, usize)> {
+    let heads = &memory.value.heads;
+    let columns = (0..heads.arity[p].min(4) as usize).map(|k| (k, heads.scope[4 * p + k] as usize % 32));
+    columns.filter(|(_, call)| memory.slots[32 * call] != 253).collect()
+}
+
+fn rows_of<'a>(memory: Memory<'a>, p: usize) -> impl Iterator<Item = &'a [u8]> {
+    let length = memory.value.heads.lengths[p].min(64) as usize;
+    memory.rows[256 * p..][..4 * length].chunks(4)
+}
+
+/// Some column of rule p counts, and no row has the plan's slots in all that do.
+fn is_broken(memory: Memory, p: usize, plan: &[u8]) -> bool {
+    let columns = columns_of(memory, p);
+    let fits = |row: &[u8]| columns.iter().all(|(k, call)| row[*k] == plan[*call]);
+    !columns.is_empty() && !rows_of(memory, p).any(fits)
+}
+
+/// The reply to a plan, by nothing but the bytes.
+fn plan_reply(host: &Host, plan: &[u8]) -> PlanReply {
+    let memory = host.memory();
+    let wrong = |(call, byte): (usize, &u8)| match slots_for(memory, call) {
+        0 => *byte != 255,
+        slots => *byte >= slots,
+    };
+    let refused = |number: u8| PlanReply { number, broken: 254 };
+    if host.lengths().question_refusal() != 0 {
+        return refused(1);
+    }
+    if plan.len() != 32 {
+        return refused(32);
+    }
+    if memory.value.heads.counts[0] == 0 {
+        return refused(6);
+    }
+    if plan.iter().enumerate().any(wrong) {
+        return refused(33);
+    }
+    let broken = (0..64).find(|p| is_broken(memory, *p, plan));
+    broken.map_or(PlanReply::KEPT, |p| PlanReply { number: 0, broken: p as u8 })
+}
+
+/// A slot for each call, as the altered counts and slots have it. Mostly some rows are laid over it, those of low rules last, so that these are kept.
+fn some_plan(random: &mut Random, memory: Memory) -> Vec<u8> {
+    if random.percent(10) {
+        let length = some_length(random, 32);
+        return some_bytes(random, length);
+    }
+    let slots: Vec<u8> = (0..32).map(|call| slots_for(memory, call)).collect();
+    let mut plan: Vec<u8> = slots.iter().map(|n| if *n == 0 { 255 } else { random.below(*n as usize) as u8 }).collect();
+    let has_lengths = memory.rows.len() == LENGTHS.buffers[0] && memory.slots.len() == LENGTHS.buffers[2];
+    if has_lengths && random.percent(80) {
+        for p in (0..random.between((1, 64))).rev() {
+            let rows: Vec<&[u8]> = rows_of(memory, p).collect();
+            let Some(row) = rows.get(random.below(rows.len().max(1))) else { continue };
+            for (k, call) in columns_of(memory, p) {
+                plan[call] = if row[k] < slots[call] { row[k] } else { plan[call] };
+            }
+        }
+    }
+    plan
+}
+
 /// All questions with any numbers. None changes anything; the row's bytes are a part of the buffer, and the empty part where the row's state is refused; a slot
-/// is cancelled where its byte says so.
-fn ask(random: &mut Random, host: &Host) {
+/// is cancelled where its byte says so. Returns the reply to a plan.
+fn ask(random: &mut Random, plan_random: &mut Random, host: &Host) -> PlanReply {
     let before = host.clone();
     let n = some_bytes(random, 7);
     let memory = host.memory();
@@ -135,7 +209,11 @@ fn ask(random: &mut Random, host: &Host) {
     let refusal = number_of(&memory.row_state(n[2], n[3]));
     assert_eq!(memory.row_bytes(n[2], n[3]).len(), if refusal == 0 { 4 } else { 0 }, "the row's bytes");
     let _ = memory.support(n[4], n[5], n[6]);
+    let plan = some_plan(plan_random, memory);
+    let reply = host.check_plan(&plan);
+    assert_eq!(reply, plan_reply(host, &plan), "the reply to the plan {plan:?}");
     assert!(*host == before, "a question changes something");
+    reply
 }
 
 /// A new board is the same on any memory, so its table is current.
@@ -147,11 +225,23 @@ fn check_new_board(host: &Host, bytes: &[u8]) {
     }
 }
 
+/// Plans were kept, broke rules of many numbers, and were refused under each number.
+fn check_replies(replies: &BTreeMap<(u8, u8), usize>) {
+    let of = |number: u8, broken: u8| replies.get(&(number, broken)).copied().unwrap_or(0);
+    let refused = [1, 32, 6, 33].map(|number| of(number, 254));
+    let broken: Vec<usize> = (0..64).map(|p| of(0, p)).collect();
+    let numbers = broken.iter().filter(|seen| **seen > 0).count();
+    let (kept, broken) = (of(0, 255), broken.iter().sum::<usize>());
+    assert!(kept > 0 && numbers > 32 && !refused.contains(&0), "plans on altered memory: {replies:?}");
+    println!("plans on altered memory: {kept} kept, {broken} that break {numbers} rules, {refused:?} refused");
+}
+
 pub fn run(left: &[Host]) {
     let mut accepted = [0; LAST_KIND as usize + 1];
+    let mut replies = BTreeMap::new();
     for seed in 0..HOSTS {
         crate::place::list("altered memory", seed);
-        let random = &mut Random(seed);
+        let (random, plan_random) = (&mut Random(seed), &mut Random(!seed));
         let mut host = some_host(random, left);
         for index in 0..COMMANDS {
             crate::place::command(index);
@@ -160,11 +250,13 @@ pub fn run(left: &[Host]) {
                 accepted[bytes[0] as usize] += 1;
                 check_new_board(&host, &bytes);
             }
-            ask(random, &host);
+            let PlanReply { number, broken } = ask(random, plan_random, &host);
+            *replies.entry((number, broken)).or_insert(0) += 1;
         }
     }
     let accepted = &accepted[1..];
     assert!(!accepted.contains(&0), "a kind was never accepted: {accepted:?}");
     let commands = HOSTS as usize * COMMANDS;
-    println!("altered memory: {commands} commands, accepted by kind {accepted:?}; {} questions", 5 * commands);
+    println!("altered memory: {commands} commands, accepted by kind {accepted:?}; {} questions", 6 * commands);
+    check_replies(&replies);
 }

@@ -1,12 +1,12 @@
 //! Cancelled calls: what is done with them in lists, counted, since each of it has to happen; and pairs of lists that cancel calls at other times, or more of
-//! them.
+//! them. The library is asked about every plan of the boards that these pairs leave.
 
-use crate::berth::{Answer, Board, Report};
+use crate::berth::{Answer, Board, PlanCheck, Report};
 use crate::filter::Slots;
 use crate::host::number_of;
 use crate::ledger::{Cancelled, Ledger, Rule, BACK, BOARD, CANCEL, GAP, HEAD, LIFT, MARK, PUT, ROW};
+use crate::occurrences::Occurrences;
 use crate::random::Random;
-use std::collections::BTreeMap;
 
 const ALL: [&str; 28] = [
     "cancellations that reopen",
@@ -41,12 +41,12 @@ const ALL: [&str; 28] = [
 
 #[derive(Default)]
 pub struct Cancellations {
-    seen: BTreeMap<&'static str, usize>,
+    seen: Occurrences,
 }
 
 impl Cancellations {
     pub fn count(&mut self, what: &'static str, holds: bool) {
-        *self.seen.entry(what).or_default() += holds as usize;
+        self.seen.count(what, holds);
     }
 
     /// A command that was answered so. The ledger is that before it, and so are the open slots.
@@ -117,20 +117,12 @@ impl Cancellations {
         self.count("puts on cancelled calls alone without rows", all && bare);
     }
 
-    fn of(&self, what: &str) -> usize {
-        self.seen.get(what).copied().unwrap_or(0)
-    }
-
     pub fn print(&self) {
-        for some in ALL.map(|what| format!("{} {what}", self.of(what))).chunks(5) {
-            println!("in lists: {}", some.join(", "));
-        }
+        self.seen.print(&ALL);
     }
 
     pub fn check_complete(&self) {
-        for what in ALL {
-            assert!(self.of(what) > 0, "lists have no {what}");
-        }
+        self.seen.check_complete(&ALL);
     }
 }
 
@@ -207,8 +199,7 @@ impl Ending<'_> {
         board
     }
 
-    /// The full plans, with no slot for a cancelled call: every rule in force has a row that agrees with the plan on the calls that are not cancelled, or has
-    /// no such call.
+    /// Every choice of a slot for each call, with none for a cancelled call.
     fn plans(&self) -> Vec<Plan> {
         let mut plans: Vec<Plan> = vec![vec![]];
         for (call, count) in (0..).zip(self.counts) {
@@ -217,15 +208,25 @@ impl Ending<'_> {
             let longer = |plan: &Plan| choices.iter().map(|slot| [&plan[..], &[*slot]].concat()).collect::<Vec<_>>();
             plans = plans.iter().flat_map(longer).collect();
         }
-        let kept = |plan: &Plan, (rule, in_force): (&Rule, &bool)| !in_force || keeps(plan, rule);
-        plans.retain(|plan| self.rules.iter().zip(&self.in_force).all(|rule| kept(plan, rule)));
         plans
+    }
+
+    /// The lowest number of a rule in force that the plan does not keep. A full plan keeps all of them.
+    fn broken(&self, plan: &Plan) -> Option<u8> {
+        let in_force = (0..).zip(self.rules).zip(&self.in_force).filter(|(_, in_force)| **in_force);
+        in_force.map(|(rule, _)| rule).find(|(_, rule)| !keeps(plan, rule)).map(|(number, _)| number)
     }
 }
 
 /// A slot for each call, or none.
 type Plan = Vec<Option<u8>>;
 
+/// The plan as the library takes it.
+fn bytes_of(plan: &Plan) -> [u8; 32] {
+    std::array::from_fn(|call| plan.get(call).copied().flatten().unwrap_or(255))
+}
+
+/// The rule has a row that agrees with the plan on the calls that are not cancelled, or has no such call.
 fn keeps(plan: &Plan, rule: &Rule) -> bool {
     let agrees = |(call, slot): (u8, u8)| plan[call as usize].is_none_or(|chosen| chosen == slot);
     let unbound = rule.calls.iter().all(|call| plan[*call as usize].is_none());
@@ -236,22 +237,33 @@ fn open(board: &Board, call: usize) -> u32 {
     board.open_slots(call as u8).unwrap().mask
 }
 
-/// No full plan uses a struck slot. Returns how many plans there are.
-fn check_plans(board: &Board, ending: &Ending) -> usize {
-    let plans = ending.plans();
-    for plan in &plans {
-        for (call, slot) in plan.iter().enumerate().filter_map(|(call, slot)| Some((call, (*slot)?))) {
-            let is_open = open(board, call) >> slot & 1 == 1;
-            assert!(is_open, "the plan {plan:?} uses slot {slot} of call {call}, which is struck");
+/// The library says "kept" of the full plans, and of the others names the lowest rule that is broken. No full plan uses a struck slot.
+fn check_plans(board: &Board, ending: &Ending, seen: &mut Seen) {
+    for plan in &ending.plans() {
+        let broken = ending.broken(plan);
+        let due = broken.map_or(PlanCheck::Kept, |rule| PlanCheck::Broken { rule });
+        assert_eq!(board.check_plan(&bytes_of(plan)), Ok(due), "the plan {plan:?}");
+        seen.other_plans += broken.is_some() as usize;
+        if broken.is_none() {
+            check_open(board, plan);
+            seen.plans += 1;
         }
     }
-    plans.len()
+}
+
+fn check_open(board: &Board, plan: &Plan) {
+    for (call, slot) in plan.iter().enumerate().filter_map(|(call, slot)| Some((call, (*slot)?))) {
+        let is_open = open(board, call) >> slot & 1 == 1;
+        assert!(is_open, "the plan {plan:?} uses slot {slot} of call {call}, which is struck");
+    }
 }
 
 /// What was seen of the pairs; each of it has to be.
 #[derive(Debug, Default)]
 struct Seen {
+    /// full ones
     plans: usize,
+    other_plans: usize,
     /// with calls cancelled, and some struck
     struck: usize,
     /// slots open after the first list and struck after the second
@@ -280,7 +292,8 @@ fn check_pair(random: &mut Random, seen: &mut Seen) {
         seen.more_open += (neither && open(&one, call) != open(&two, call)) as usize;
     }
     seen.struck += (!second.cancelled.is_empty() && two.summaries().iter().any(|record| record.struck > 0)) as usize;
-    seen.plans += check_plans(&one, &first) + check_plans(&two, &second);
+    check_plans(&one, &first, seen);
+    check_plans(&two, &second, seen);
 }
 
 pub fn run() {
@@ -289,9 +302,8 @@ pub fn run() {
         crate::place::list("lists that cancel", seed);
         check_pair(&mut Random(seed), &mut seen);
     }
-    assert!(seen.plans > 0 && seen.struck > 0 && seen.more_open > 0, "lists that cancel: {seen:?}");
-    println!(
-        "lists that cancel: {PAIRS} pairs, {} with struck slots, {} calls with more open after the first; {} full plans",
-        seen.struck, seen.more_open, seen.plans
-    );
+    let Seen { plans, other_plans, struck, more_open } = seen;
+    assert!(![plans, other_plans, struck, more_open].contains(&0), "lists that cancel: {seen:?}");
+    print!("lists that cancel: {PAIRS} pairs, {struck} with struck slots, {more_open} calls with more open after the first; ");
+    println!("{plans} full plans, {other_plans} others");
 }

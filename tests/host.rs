@@ -89,6 +89,23 @@ pub struct Host {
     pub table: Fenced<Summary>,
 }
 
+/// The library's reply to a plan, with what a refused one has beside its number, which berth.rs does not hand on.
+#[repr(C)]
+#[derive(Clone, Copy, Debug, PartialEq)]
+pub struct PlanReply {
+    pub number: u8,
+    pub broken: u8,
+}
+
+impl PlanReply {
+    pub const KEPT: PlanReply = PlanReply { number: 0, broken: 255 };
+}
+
+#[rustfmt::skip]
+extern "C" {
+    fn berth_check_plan(value: Value, rows: *const u8, r: usize, killers: *const u8, k: usize, slots: *const u8, s: usize, plan: *const u8, p: usize) -> PlanReply;
+}
+
 /// The number in the refusal table; 0 of an answer.
 pub fn number_of<T>(answer: &Answer<T>) -> u8 {
     let number = |refusal: &Refusal| refusal.number();
@@ -264,5 +281,28 @@ impl Host {
     pub fn memory(&self) -> Memory<'_> {
         let [rows, killers, slots] = &self.buffers;
         Memory { value: &self.value.value, rows: rows.inside(), killers: killers.inside(), slots: slots.inside() }
+    }
+
+    /// The reply to a plan of any length. The plan does not change.
+    pub fn check_plan(&self, plan: &[u8]) -> PlanReply {
+        let given = Fenced::new(plan);
+        let [rows, killers, slots, lent] =
+            [self.memory().rows, self.memory().killers, self.memory().slots, given.inside()];
+        // SAFETY: each pointer is a slice's, with that slice's length.
+        let reply = unsafe {
+            berth_check_plan(
+                self.value.value,
+                rows.as_ptr(),
+                rows.len(),
+                killers.as_ptr(),
+                killers.len(),
+                slots.as_ptr(),
+                slots.len(),
+                lent.as_ptr(),
+                lent.len(),
+            )
+        };
+        assert!(given == Fenced::new(plan), "the plan {plan:?} is written to");
+        reply
     }
 }

@@ -16,8 +16,9 @@ pub const BACK: u8 = 8;
 pub const CANCEL: u8 = 9;
 pub const LAST_KIND: u8 = CANCEL;
 
-/// Refusals have the numbers up to this one.
-pub const LAST_REFUSAL: usize = 29;
+/// Refusals have the numbers up to this one, but for those that no refusal has yet.
+pub const LAST_REFUSAL: usize = 33;
+pub const NO_REFUSALS: [usize; 2] = [30, 31];
 
 /// The lengths of what is lent with a command.
 #[derive(Clone, Copy)]
@@ -274,6 +275,25 @@ impl Ledger {
         let call = self.rules.get(&number).and_then(|rule| rule.calls.get(column as usize));
         let slots = call.map_or(0, |call| self.count(*call));
         first(&[(before, before != 0), (21, call.is_none()), (19, slot >= slots)])
+    }
+
+    /// A call that a plan has a slot for: it is on the board and not cancelled.
+    pub fn takes_part(&self, call: u8) -> bool {
+        self.count(call) > 0 && !self.is_cancelled(call)
+    }
+
+    /// The byte is no slot of the call, struck or not, or is not 255 where the plan has no slot for the call.
+    pub fn is_wrong_in_plan(&self, call: u8, byte: u8) -> bool {
+        if self.takes_part(call) {
+            byte >= self.count(call)
+        } else {
+            byte != 255
+        }
+    }
+
+    pub fn plan_refusal(&self, plan: &[u8]) -> u8 {
+        let wrong = (0..=255).zip(plan).any(|(call, byte)| self.is_wrong_in_plan(call, *byte));
+        first(&[(32, plan.len() != 32), (6, self.no_board()), (33, wrong)])
     }
 
     /// Carries out a command that is not refused.

@@ -4,6 +4,7 @@ use crate::berth::Summary;
 use crate::host::{number_of, Fenced, Host};
 use crate::ledger::{self, LENGTHS};
 use crate::questions;
+use crate::random::Random;
 use crate::session::Session;
 use crate::summary;
 use crate::tally::Tally;
@@ -38,7 +39,7 @@ fn other_length(writer: &mut Writer, session: &mut Session, bytes: &[u8]) {
 
 /// One list. Returns what it leaves.
 fn list(seed: u64, sizes: &'static Sizes, tally: &mut Tally) -> Host {
-    let mut writer = Writer::new(seed, sizes);
+    let (mut writer, mut plan_random) = (Writer::new(seed, sizes), Random(!seed));
     let marks: Vec<u8> = (0..LENGTHS.marks).map(|_| writer.random.byte()).collect();
     let mut session = Session::new(tally, &marks);
     for index in 0..sizes.commands {
@@ -54,7 +55,7 @@ fn list(seed: u64, sizes: &'static Sizes, tally: &mut Tally) -> Host {
         session.command(&bytes);
         let changed = bytes.first().is_some_and(|kind| !ledger::leaves_buffers(*kind));
         if changed || writer.random.below(10) == 0 {
-            questions::ask(&mut writer.random, &mut session);
+            questions::ask(&mut writer.random, &mut plan_random, &mut session);
         }
     }
     session.check_board();

@@ -1,12 +1,13 @@
 //! Tests of the board as users have it, the static library and the sheet program, against a second account of the board that shares no code with it: a ledger
-//! (ledger.rs), a filter from scratch (filter.rs), a count of its slots and rules (summary.rs) and a writer of sheets (sheet.rs). Seeds are fixed. They run in the repository's folder; tests/run builds
-//! what they need.
+//! (ledger.rs), a filter from scratch (filter.rs), a count of its slots and rules (summary.rs), a check of plans (plans.rs) and a writer of sheets (sheet.rs).
+//! Seeds are fixed. They run in the repository's folder; tests/run builds what they need.
 //!
 //!     tests [samples | lists | sheets | broken]
 //!
 //! A word runs a part alone. With `broken` that is the lists, with a filter that stops after one pass: they have to fail.
 
 mod altered;
+mod around;
 #[path = "../hosts/berth.rs"]
 mod berth;
 mod cancelled;
@@ -16,7 +17,9 @@ mod host;
 mod ledger;
 mod lists;
 mod marks;
+mod occurrences;
 mod place;
+mod plans;
 mod questions;
 mod random;
 mod records;
@@ -47,6 +50,7 @@ fn main() {
         replay::run(&left);
         gaps::run(&left);
         cancelled::run();
+        around::run();
     }
     if matches!(&word[..], "" | "sheets") {
         sheet::run(&mut tally);

@@ -3,7 +3,7 @@
 use crate::berth::{Answer, Report};
 use crate::host::number_of;
 use crate::ledger::{Kept, Ledger, Rules, BACK, BOARD, MARK};
-use std::collections::BTreeMap;
+use crate::occurrences::Occurrences;
 
 const ALL: [&str; 15] = [
     "marks beside a draft",
@@ -34,7 +34,7 @@ pub enum Past {
 
 #[derive(Default)]
 pub struct Marks {
-    seen: BTreeMap<&'static str, usize>,
+    seen: Occurrences,
 }
 
 /// Whether the first has rules under numbers that the second has none under.
@@ -44,7 +44,7 @@ fn has_more(first: &Rules, second: &Rules) -> bool {
 
 impl Marks {
     fn count(&mut self, what: &'static str, holds: bool) {
-        *self.seen.entry(what).or_default() += holds as usize;
+        self.seen.count(what, holds);
     }
 
     /// A command that was answered so. The ledger is that before it.
@@ -89,19 +89,11 @@ impl Marks {
         self.count("backs to over 50 rules", kept.rules.len() > 50);
     }
 
-    fn of(&self, what: &str) -> usize {
-        self.seen.get(what).copied().unwrap_or(0)
-    }
-
     pub fn print(&self) {
-        for some in ALL.map(|what| format!("{} {what}", self.of(what))).chunks(5) {
-            println!("in lists: {}", some.join(", "));
-        }
+        self.seen.print(&ALL);
     }
 
     pub fn check_complete(&self) {
-        for what in ALL {
-            assert!(self.of(what) > 0, "lists have no {what}");
-        }
+        self.seen.check_complete(&ALL);
     }
 }

@@ -1,10 +1,11 @@
-//! The five questions, asked with numbers near what there is and with any: refused as the ledger says, and answered as the open slots and the recorded bytes
-//! say. None changes anything.
+//! The six questions, five of them asked with numbers near what there is and with any: refused as the ledger says, and answered as the open slots and the
+//! recorded bytes say. plans.rs asks the sixth. None changes anything.
 
 use crate::berth::{Answer, Row, Slot};
 use crate::filter::{has, is_alive};
 use crate::host::{number_of, Fenced, Host};
 use crate::ledger::Ledger;
+use crate::plans;
 use crate::random::Random;
 use crate::session::Session;
 
@@ -27,8 +28,8 @@ fn some_numbers(random: &mut Random, ledger: &Ledger) -> Numbers {
     Numbers { call, slot: random.near(slots), rule, row: random.near(rows), column: random.near(4) }
 }
 
-/// All five; now and then a buffer of another length is lent.
-pub fn ask(random: &mut Random, session: &mut Session) {
+/// All six; now and then a buffer of another length is lent. The plans are made of random numbers of their own.
+pub fn ask(random: &mut Random, plan_random: &mut Random, session: &mut Session) {
     let numbers = &some_numbers(random, &session.ledger);
     let right = random.percent(2).then(|| session.host.clone());
     if right.is_some() {
@@ -40,6 +41,7 @@ pub fn ask(random: &mut Random, session: &mut Session) {
     session.ask_row_state(numbers);
     session.ask_row_bytes(numbers);
     session.ask_support(numbers);
+    plans::ask(plan_random, session);
     assert!(session.host == before, "a question changes something");
     session.host = right.unwrap_or(before);
 }
@@ -59,7 +61,7 @@ pub fn to_other_length(random: &mut Random, buffer: &mut Fenced<u8>) {
 
 impl Session<'_> {
     /// The refusal of a question that the ledger refuses so, where the buffers are of their lengths.
-    fn due(&self, refusal: u8) -> u8 {
+    pub fn due(&self, refusal: u8) -> u8 {
         match self.host.lengths().question_refusal() {
             0 => refusal,
             other => other,

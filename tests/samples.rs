@@ -1,7 +1,8 @@
-//! Samples whose values are written out: the texts in samples/, whose sheets stand beside them, the sample boards (SCOPE 8), gap rules, marks and cancelled
-//! calls.
+//! Samples whose values are written out: the texts in samples/, whose sheets stand beside them, the sample boards (SCOPE 8), gap rules, marks, cancelled calls
+//! and plans.
 
-use crate::berth::{Board, Row, Slot, Summary};
+use crate::berth::lent::Memory;
+use crate::berth::{Board, PlanCheck, Row, Slot, Summary};
 use crate::host::number_of;
 use crate::ledger::{BACK, CANCEL, GAP, HEAD, LAST_KIND, MARK};
 use crate::sheet::{check_total, program_writes, sheet_of};
@@ -427,6 +428,72 @@ fn check_cancel_refusals() {
     assert_eq!(board.put().unwrap().struck, 8, "the draft that they left");
 }
 
+/// A plan with these bytes for the first calls, and 255 for the others.
+fn plan_of(first: &[u8]) -> Vec<u8> {
+    let mut plan = first.to_vec();
+    plan.resize(32, 255);
+    plan
+}
+
+/// The lowest rule that the plan breaks; none where it is kept.
+fn broken(board: &Board, first: &[u8]) -> Option<u8> {
+    match board.check_plan(&plan_of(first)).unwrap() {
+        PlanCheck::Kept => None,
+        PlanCheck::Broken { rule } => Some(rule),
+    }
+}
+
+/// P2 has one full plan. Of two broken rules the lower one is named. Slot 1 of call 0 is struck, and with slot 2 of call 1 it is a row of rule 0: the rule that
+/// is broken is not on call 0. With call 1 cancelled its column does not count in either rule.
+fn check_plans() {
+    let mut board = Board::new();
+    board.start(&[3, 3, 2]).unwrap();
+    assert_eq!(broken(&board, &[2, 2, 1]), None, "without rules");
+    put(&mut board, 0, &[0, 1], &[&[0, 1], &[0, 2], &[1, 2]], 2);
+    put(&mut board, 1, &[1, 2], &[&[1, 0], &[0, 1]], 3);
+    assert_eq!(broken(&board, &[0, 1, 0]), None);
+    assert_eq!([[0, 1, 1], [0, 2, 0], [1, 2, 0]].map(|plan| broken(&board, &plan)), [Some(1); 3]);
+    assert_eq!([[1, 1, 0], [0, 0, 1], [2, 2, 1]].map(|plan| broken(&board, &plan)), [Some(0); 3]);
+    cancel(&mut board, 1, [2, 2]);
+    assert_eq!([[0, 255, 0], [0, 255, 1], [1, 255, 1]].map(|plan| broken(&board, &plan)), [None; 3]);
+    assert_eq!(broken(&board, &[2, 255, 1]), Some(0));
+}
+
+/// A rule without rows is broken by every plan, until all its calls are cancelled. With all calls cancelled there is one plan, and it is kept.
+fn check_plans_without_rows() {
+    let mut board = Board::new();
+    board.start(&[2, 3]).unwrap();
+    put(&mut board, 9, &[0, 1], &[], 5);
+    assert_eq!(broken(&board, &[0, 0]), Some(9));
+    cancel(&mut board, 0, [0, 0]);
+    assert_eq!(broken(&board, &[255, 2]), Some(9));
+    cancel(&mut board, 1, [0, 0]);
+    assert_eq!(broken(&board, &[]), None);
+}
+
+/// Plans with several things wrong, and fewer from one to the next.
+fn check_plan_refusals() {
+    let mut board = Board::new();
+    let refusal = |board: &Board, plan: &[u8]| number_of(&board.check_plan(plan));
+    let short = Memory { killers: &[255; 4095], ..board.memory() };
+    assert_eq!([0, 31, 32, 33].map(|length| number_of(&short.check_plan(&vec![0; length]))), [1; 4]);
+    assert_eq!([0, 31, 33].map(|length| refusal(&board, &vec![0; length])), [32; 3]);
+    assert_eq!([0, 255].map(|byte| refusal(&board, &[byte; 32])), [6; 2]);
+    board.start(&[4, 1, 32]).unwrap();
+    put(&mut board, 63, &[0], &[&[3]], 3);
+    cancel(&mut board, 1, [0, 0]);
+    assert_eq!([31, 33].map(|length| refusal(&board, &vec![255; length])), [32; 2]);
+    assert_eq!(
+        [[4, 255, 31], [255, 255, 31], [3, 255, 32], [3, 255, 255]].map(|plan| refusal(&board, &plan_of(&plan))),
+        [33; 4]
+    );
+    assert_eq!([[3, 0, 31], [3, 1, 31]].map(|plan| refusal(&board, &plan_of(&plan))), [33; 2], "for a cancelled call");
+    let last = [&plan_of(&[3, 255, 31])[..31], &[0]].concat();
+    assert_eq!([plan_of(&[3, 255, 31, 0]), last].map(|plan| refusal(&board, &plan)), [33; 2], "for an absent call");
+    assert_eq!([0, 1, 2].map(|slot| broken(&board, &[slot, 255, 31])), [Some(63); 3], "struck slots");
+    assert_eq!(broken(&board, &[3, 255, 31]), None);
+}
+
 pub fn run(tally: &mut Tally) {
     crate::place::list("samples", 0);
     check_put_and_lift();
@@ -447,6 +514,9 @@ pub fn run(tally: &mut Tally) {
     check_cancelled_draft();
     check_cancelled_marks();
     check_cancel_refusals();
+    check_plans();
+    check_plans_without_rows();
+    check_plan_refusals();
     check_texts(tally);
-    println!("samples: the sample boards, gap rules, marks, cancelled calls and the texts of samples/");
+    println!("samples: the sample boards, gap rules, marks, cancelled calls, plans and the texts of samples/");
 }

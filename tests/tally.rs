@@ -2,12 +2,36 @@
 
 use crate::berth::Report;
 use crate::cancelled::Cancellations;
-use crate::ledger::{Ledger, BACK, BOARD, CANCEL, GAP, HEAD, LAST_KIND, LAST_REFUSAL, LIFT, MARK, PUT, ROW};
+use crate::ledger::{
+    Ledger, BACK, BOARD, CANCEL, GAP, HEAD, LAST_KIND, LAST_REFUSAL, LIFT, MARK, NO_REFUSALS, PUT, ROW,
+};
 use crate::marks::Marks;
+use crate::plans::Plans;
 use std::collections::BTreeMap;
+use std::ops::{Index, IndexMut};
 
 /// How often each refusal was seen; at 0, none.
-pub type Refusals = [usize; LAST_REFUSAL + 1];
+pub struct Refusals([usize; LAST_REFUSAL + 1]);
+
+impl Default for Refusals {
+    fn default() -> Self {
+        Refusals([0; LAST_REFUSAL + 1])
+    }
+}
+
+impl Index<usize> for Refusals {
+    type Output = usize;
+
+    fn index(&self, number: usize) -> &usize {
+        &self.0[number]
+    }
+}
+
+impl IndexMut<usize> for Refusals {
+    fn index_mut(&mut self, number: usize) -> &mut usize {
+        &mut self.0[number]
+    }
+}
 
 /// The refusals of each kind (SCOPE 4.3). 3 is left out, since it is of no kind.
 const REFUSALS_OF_KIND: [(u8, &[usize]); LAST_KIND as usize] = [
@@ -57,6 +81,7 @@ pub struct Tally {
     pub gaps: Gaps,
     pub marks: Marks,
     pub cancelled: Cancellations,
+    pub plans: Plans,
     pub struck: usize,
     pub reopened: usize,
     /// lifts that touched more slots than they reopened
@@ -105,16 +130,20 @@ impl Tally {
         self.gaps.print();
         self.marks.print();
         self.cancelled.print();
+        self.plans.print();
     }
 
     /// Every refusal was seen, lifts reopened slots and struck some again, a board and a draft were full, and tables were altered.
     pub fn check_complete(&self) {
-        assert!(!self.refusals.contains(&0), "a refusal was never seen");
+        let never = |number: &usize| self.refusals[*number] == 0 && !NO_REFUSALS.contains(number);
+        let never: Vec<usize> = (0..=LAST_REFUSAL).filter(never).collect();
+        assert!(never.is_empty(), "these refusals were never seen: {never:?}");
         assert!(!self.sheet_lines[1..].contains(&0), "no sheet shows a kind as accepted");
         self.check_kinds();
         self.gaps.check_complete();
         self.marks.check_complete();
         self.cancelled.check_complete();
+        self.plans.check_complete();
         assert!(self.reopened > 0 && self.struck_again > 0, "no lift did anything");
         assert!((self.most_rules, self.most_rows) == (64, 64), "no board was full");
         assert!(self.altered_tables > 0 && self.totals > 0, "no table was altered, or no sheet had a total");
@@ -133,8 +162,8 @@ impl Tally {
 }
 
 fn decisions(seen: &Refusals) -> String {
-    let refused = (1..).zip(&seen[1..]).filter(|(_, seen)| **seen > 0);
-    let refused: String = refused.map(|(number, seen)| format!(" {number}: {seen}")).collect();
+    let refused = (1..=LAST_REFUSAL).filter(|number| seen[*number] > 0);
+    let refused: String = refused.map(|number| format!(" {number}: {}", seen[number])).collect();
     format!("accepted {}; refused under{refused}", seen[0])
 }
 

@@ -43,7 +43,7 @@ pub struct Writer {
 }
 
 /// A command's bytes, with 255 in the fields that are left out.
-fn command(kind: u8, fields: &[u8]) -> Vec<u8> {
+pub fn command(kind: u8, fields: &[u8]) -> Vec<u8> {
     let mut bytes = [&[kind], fields].concat();
     bytes.resize(1 + ledger::body_length(kind).unwrap_or(fields.len()), 255);
     bytes
@@ -136,7 +136,7 @@ impl Writer {
     }
 
     /// The head, the rows and the put of a rule.
-    fn rule(&mut self, ledger: &Ledger) -> Vec<Vec<u8>> {
+    pub fn rule(&mut self, ledger: &Ledger) -> Vec<Vec<u8>> {
         let number = self.number(ledger);
         let random = &mut self.random;
         let arity = *random.choose(&[1, 2, 2, 2, 2, 3, 3, 4]);

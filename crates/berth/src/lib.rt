@@ -1,10 +1,11 @@
-// The board for hosts in C and Rust: the entries and the five questions under their C names. What a host holds beside the buffers is a plain C struct of two parts, the
+// The board for hosts in C and Rust: the entries and the six questions under their C names. What a host holds beside the buffers is a plain C struct of two parts, the
 // board's value and the names of the marks. Both are lent by pointer to the two functions that write them; the questions are handed the board's value by value. The
 // summary table is a slice of C structs. hosts/berth.h says the same for C, and two numbers tell a host whether its header is this library's.
 // Proved: each reply hands on an answer that keeps its promise of the model's specs, on any value and any buffers. Assumed: nothing here; of a host, that a
 // lent pointer reaches as far as its length says, and that nothing lent to one call overlaps.
 use berth_reply::CommandReply;
 use berth_reply::PlaceReply;
+use berth_reply::PlanReply;
 use berth_reply::ReplayReply;
 use berth_reply::RowReply;
 use berth_reply::SlotsReply;
@@ -16,13 +17,14 @@ use layout::summary::Summary;
 use layout::value::Value;
 ghost use mathlib.Core.Path.{_≡_};
 ghost use Rattle.model.specs.Questions.{SlotsPromise, StatePromise, RowPromise, SupportPromise};
-ghost use Rattle.berth_reply.specs.Replies.{Replied, CommandReplied, ReplayReplied, PlaceReplied, slotsReply, stateReply, rowReply, supportReply};
+ghost use Rattle.plan_model.specs.Check.{PlanPromise};
+ghost use Rattle.berth_reply.specs.Replies.{Replied, CommandReplied, ReplayReplied, PlaceReplied, slotsReply, stateReply, rowReply, supportReply, planReply};
 ghost use Rattle.layout.specs.Names.{freshMarked};
 ghost use Rattle.layout.specs.Memory.{memory, markedMemory, wholeOf};
 ghost use Rattle.berth.specs.Version.{interfaceVersion, valueSize};
 
 // A host compares these two with what its header says. They take and return plain numbers, so that a host of any version can ask.
-const VERSION: u32 = 9;
+const VERSION: u32 = 10;
 
 // The bytes of `MarkedValue`: 416 of the heads, 263 of the draft, and 834 of the names.
 const VALUE_SIZE: usize = 1513;
@@ -168,4 +170,18 @@ pub extern "C" fn berth_support(
         supportReply r ⌝ }
 {
     berth_reply::of_support(questions::support(value, rows, killers, slots, rule, column, slot))
+}
+
+// Whether a plan of 32 bytes keeps every rule in force, or else the lowest number of one that it breaks.
+#[no_mangle]
+pub extern "C" fn berth_check_plan(
+    value: Value,
+    rows: &[u8],
+    killers: &[u8],
+    slots: &[u8],
+    plan: &[u8],
+) -> PlanReply
+    ensures { λ r. ⌜ Replied (PlanPromise (memory value (rows .entry) (killers .entry) (slots .entry)) (now (plan .entry))) planReply r ⌝ }
+{
+    berth_reply::of_plan_check(plan_check::check_plan(value, rows, killers, slots, plan))
 }

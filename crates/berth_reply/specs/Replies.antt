@@ -14,6 +14,8 @@ use Rattle.model.specs.declared.answer.RowState.{RowState}
 use Rattle.model.specs.declared.answer.RowState.the-variants as row
 use Rattle.model.specs.declared.answer.Support.{Support}
 use Rattle.model.specs.declared.answer.Support.the-variants as support
+use Rattle.plan_model.specs.declared.answer.PlanCheck.{PlanCheck}
+use Rattle.plan_model.specs.declared.answer.PlanCheck.the-variants as plan
 use Rattle.command_file.specs.declared.Replayed.{Replayed}
 use Rattle.berth_reply.specs.declared.CommandReply.{CommandReply}
 use Rattle.berth_reply.specs.declared.ReplayReply.{ReplayReply}
@@ -22,6 +24,7 @@ use Rattle.berth_reply.specs.declared.StateReply.{StateReply}
 use Rattle.berth_reply.specs.declared.RowReply.{RowReply}
 use Rattle.berth_reply.specs.declared.PlaceReply.{PlaceReply}
 use Rattle.berth_reply.specs.declared.SupportReply.{SupportReply}
+use Rattle.berth_reply.specs.declared.PlanReply.{PlanReply}
 use Rattle.model.specs.Promise.{Promise}
 use Rattle.model.specs.Questions.{rowChecks, RowBytesPromise}
 use Rattle.command_file.specs.Replay.{ReplayPromise}
@@ -74,6 +77,12 @@ abbrev pub supportReply : Support → SupportReply
 supportReply (support.Row w) = record { number = 0; row = w }
 supportReply support.Nothing = record { number = 0; row = 255 }
 supportReply (support.Refused n) = record { number = n; row = 254 }
+
+-- the lowest number of a rule that the plan breaks; 255 where it is kept
+abbrev pub planReply : PlanCheck → PlanReply
+planReply plan.Kept = record { number = 0; broken = 255 }
+planReply (plan.Broken p) = record { number = 0; broken = p }
+planReply (plan.Refused n) = record { number = n; broken = 254 }
 
 -- where a row's four bytes stand in the lent row buffer, by the number of the row's refusal; no byte of it where there is one
 abbrev pub placeReply : ℕ → ℕ → ℕ → PlaceReply

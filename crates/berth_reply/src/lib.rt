@@ -8,8 +8,9 @@ use model::answer::Outcome;
 use model::answer::RowState;
 use model::answer::SlotState;
 use model::answer::Support;
+use plan_model::answer::PlanCheck;
 ghost use mathlib.Core.Path.{_≡_};
-ghost use Rattle.berth_reply.specs.Replies.{commandReply, replayReply, slotsReply, stateReply, rowReply, supportReply};
+ghost use Rattle.berth_reply.specs.Replies.{commandReply, replayReply, slotsReply, stateReply, rowReply, supportReply, planReply};
 ghost use Rattle.berth_reply.specs.Places.{rowPlaceReply};
 
 // What a command changed: S, R and T (SCOPE 3.7), which are 0 where refused.
@@ -64,6 +65,13 @@ pub struct PlaceReply {
 pub struct SupportReply {
     pub number: u8,
     pub row: u8,
+}
+
+// The lowest number of a rule that the plan breaks; 255 where it is kept, 254 where refused.
+#[repr(C)]
+pub struct PlanReply {
+    pub number: u8,
+    pub broken: u8,
 }
 
 pub fn of_outcome(outcome: Outcome) -> CommandReply
@@ -171,5 +179,21 @@ pub fn of_support(answer: Support) -> SupportReply
             row: 255,
         },
         Support::Refused(number) => SupportReply { number, row: 254 },
+    }
+}
+
+pub fn of_plan_check(answer: PlanCheck) -> PlanReply
+    ensures { λ r. ⌜ r ≡ planReply answer ⌝ }
+{
+    match answer {
+        PlanCheck::Kept => PlanReply {
+            number: 0,
+            broken: 255,
+        },
+        PlanCheck::Broken(broken) => PlanReply { number: 0, broken },
+        PlanCheck::Refused(number) => PlanReply {
+            number,
+            broken: 254,
+        },
     }
 }

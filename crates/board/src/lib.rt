@@ -1,5 +1,5 @@
 // THE ENTRIES: any bytes as a command, on any value, any buffers and any summary table; a file of commands, replayed on a board that is made fresh in any memory; and
-// the five questions, which the crate questions has. The types that they take and answer with are handed on too.
+// the six questions, which the crates questions and plan_check have. The types that they take and answer with are handed on too.
 // Proved: what the command entry answers and leaves is what specs/Promise.antt of the crate model says, and what a file leaves stands after a list of such commands,
 // of which specs/Laws/Demands.antt has demand 3. Assumed: nothing.
 pub use command_file::Replayed;
@@ -16,6 +16,8 @@ pub use model::answer::Report;
 pub use model::answer::RowState;
 pub use model::answer::SlotState;
 pub use model::answer::Support;
+pub use plan_check::check_plan;
+pub use plan_model::answer::PlanCheck;
 pub use questions::open_slots;
 pub use questions::row_bytes;
 pub use questions::row_state;

@@ -5,7 +5,7 @@ use Prim.Native.Nat.{ℕ, _<_}
 use denote.Ref.{RefT, now}
 use lib.ListN.{length, replicate, getD}
 use Rattle.layout.specs.declared.value.Value.{Value}
-use Rattle.layout.specs.Value.{freshValue}
+use Rattle.layout.specs.Value.{emptyDraft, freshValue}
 use Rattle.layout.specs.Names.{noNames}
 use Rattle.layout.specs.declared.summary.Summary.{Summary}
 use Rattle.layout.specs.Summary.{noRecords}
@@ -24,6 +24,11 @@ stateOf value rows killers slots = record { value = value; rows = rows; killers 
 -- the same with the buffers that a function is lent
 abbrev pub memory : Value → RefT (List ℕ) → RefT (List ℕ) → RefT (List ℕ) → State
 memory value rows killers slots = stateOf value (now rows) (now killers) (now slots)
+
+-- a state of these parts, for a function that is handed only some of them: [] stands for a part that it does not look at, and no question looks at the draft
+abbrev pub stateOfParts : List ℕ → List ℕ → List ℕ → List ℕ → List ℕ → List ℕ → List ℕ → State
+stateOfParts counts arity scope lengths rows killers slots =
+    stateOf (record { heads = record { counts = counts; arity = arity; scope = scope; lengths = lengths }; draft = emptyDraft }) rows killers slots
 
 -- the lengths of its buffers
 abbrev pub lentOf : State → Lent

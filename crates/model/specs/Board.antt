@@ -117,13 +117,21 @@ Dead B r w = Alive B r w → ⊥
 abbrev pub noSlotGiven : ℕ
 noSlotGiven = 255
 
--- FULL PLAN (SCOPE 1.15, 1.22), a term of the scope: each call that is not cancelled gets a slot of its own and a cancelled one none, and every rule in force with an
--- active column j has a row that agrees with the plan in all active columns
+-- ROW w OF RULE r FITS A PLAN (SCOPE 1.23): in each active column it has the slot that the plan gives the column's call. Full plans, and plans that are checked
+-- (order 10), go by this one definition
+abbrev pub RowFits : Board → (ℕ → ℕ) → Rule → ℕ → Type 0
+RowFits B plan r w = (k : ℕ) → Active B r k → slotAt r w k ≡ plan (callAt r k)
+
+-- a plan KEEPS a rule if, with an active column j, the rule has a row that fits: one without an active column asks nothing (1.20)
+abbrev pub KeepsRule : Board → (ℕ → ℕ) → Rule → Type 0
+KeepsRule B plan r = (j : ℕ) → Active B r j → (w : ℕ) × (w < length (r .rows)) × RowFits B plan r w
+
+-- FULL PLAN (SCOPE 1.15, 1.22), a term of the scope: each call that is not cancelled gets a slot of its own and a cancelled one none, and the plan keeps every rule in
+-- force
 pub record FullPlan (B : Board) (plan : ℕ → ℕ) : Type 0 where
   pub gives : (c : ℕ) → c < length (B .counts) → Live B c → OnBoard B c (plan c)
   pub absent : (c : ℕ) → Cancelled B c → plan c ≡ noSlotGiven
-  pub keeps : (p : ℕ) (r : Rule) → InForce B p r → (j : ℕ) → Active B r j
-      → (w : ℕ) × (w < length (r .rows)) × ((k : ℕ) → Active B r k → slotAt r w k ≡ plan (callAt r k))
+  pub keeps : (p : ℕ) (r : Rule) → InForce B p r → KeepsRule B plan r
 
 -- SAME RULES (SCOPE 1.16): the same calls in the same columns, and each row of either rule is a row of the other
 abbrev pub RowsIn : Rule → Rule → Type 0

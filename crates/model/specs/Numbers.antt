@@ -116,3 +116,11 @@ alreadyCancelled = 28
 -- a call of a new rule is cancelled
 abbrev pub cancelledCall : ℕ
 cancelledCall = 29
+
+-- a plan is not 32 bytes
+abbrev pub planLength : ℕ
+planLength = 32
+
+-- a byte of a plan is no slot of its call, or is not 255 where the call gets none
+abbrev pub badPlanByte : ℕ
+badPlanByte = 33

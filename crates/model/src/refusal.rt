@@ -98,3 +98,9 @@ pub const ALREADY_CANCELLED: u8 = 28;
 
 // a call of a new rule is cancelled
 pub const CANCELLED_CALL: u8 = 29;
+
+// a plan is not 32 bytes
+pub const PLAN_LENGTH: u8 = 32;
+
+// a byte of a plan is no slot of its call, or is not 255 where the call gets none
+pub const BAD_PLAN_BYTE: u8 = 33;

@@ -4,18 +4,12 @@ use mathlib.Core.List.{List, []}
 use Prim.Native.Nat.{ℕ, _≤_, _<_}
 use denote.Ref.{RefT, now}
 use lib.ListN.{length}
-use Rattle.layout.specs.Value.{emptyDraft}
 use Rattle.layout.specs.Places.{rowsOf}
-use Rattle.layout.specs.Memory.{State, stateOf}
+use Rattle.layout.specs.Memory.{State, stateOfParts}
 use Rattle.layout.specs.Sizes.{killersLength, rowsLength}
 use Rattle.model.specs.declared.answer.Support.{Support}
 use Rattle.model.specs.Tests.{first}
 use Rattle.model.specs.Questions.{supports?, foundRow}
-
--- a state of these parts, for a function that is handed only some of them: [] stands for a part that it does not look at, and no question looks at the draft
-abbrev pub stateOfParts : List ℕ → List ℕ → List ℕ → List ℕ → List ℕ → List ℕ → List ℕ → State
-stateOfParts counts arity scope lengths rows killers slots =
-    stateOf (record { heads = record { counts = counts; arity = arity; scope = scope; lengths = lengths }; draft = emptyDraft }) rows killers slots
 
 -- the parts that functions are lent: for a call or a slot of it, for a rule, a row of it, a support, and for the search of one
 abbrev pub callParts : RefT (List ℕ) → RefT (List ℕ) → RefT (List ℕ) → RefT (List ℕ) → State

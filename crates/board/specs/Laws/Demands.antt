@@ -1,5 +1,5 @@
 -- DEMAND 3 OF THE COMMAND ENTRY (SCOPE 6.12 to 6.15), over every list of raw commands with any lengths lent, and over every two lists; and the summary table after every
--- list (2.9, 7.11). Nothing is assumed but that each command of a list meets the entry's contract, which `command` of this crate is proved to do.
+-- list (2.9, 7.11), and the check of plans (5.7, 5.8). Nothing is assumed but that each command of a list meets the entry's contract, which `command` of this crate is proved to do.
 use mathlib.Core.Path.{_≡_, _∙_}
 use mathlib.Core.List.{List}
 use mathlib.Core.Logic.{_↔_, _⊎_, inl, inr, ⊎-elim}
@@ -20,7 +20,13 @@ use Rattle.model.specs.Laws.Change.{byte-on}
 use Rattle.layout.specs.Places.{causeOf, killerOf, cancelledByte}
 use Rattle.layout.specs.Summary.{noSummary}
 use Rattle.layout.specs.Sizes.{recordsLength}
-use Rattle.layout.specs.Memory.{Whole}
+use Rattle.layout.specs.Memory.{Whole, lentOf}
+use Rattle.model.specs.Refusals.{firstOf}
+use Rattle.plan_model.specs.declared.answer.PlanCheck.{PlanCheck}
+use Rattle.plan_model.specs.declared.answer.PlanCheck.the-variants as plan
+use Rattle.plan_model.specs.Plans.{slotIn}
+use Rattle.plan_model.specs.Check.{planConditions, LowestBroken, PlanPromise}
+use Rattle.plan_model.specs.Laws.Kept.{kept-exactly, struck-broken}
 use Rattle.board.specs.Lists.{boardAfter}
 
 -- FOR EVERY LIST OF COMMANDS
@@ -116,6 +122,16 @@ module _ {first : List ℕ} (ms : List Member) (s : Whole) (after : After first 
   -- and no killer is in its column (2.12)
   pub killers-live : (p : ℕ) (r : Rule) → InForce B p r → (w : ℕ) → w < length (r .rows) → (killer p w ≡ 255) ⊎ Live B (callAt r (killer p w))
   killers-live p r f w lw = ⊎-elim (λ a. inl (a .0)) (λ d. inr (theory.active-live B r (killer p w) (d .0 .column))) (killers-struck p r f w lw)
+
+  -- PLANS FROM ELSEWHERE, after every list (SCOPE 5.7): of bytes that pass the checks, whatever answer keeps its promise is "kept" exactly where they are a full plan,
+  module _ (bytes : List ℕ) (passes : firstOf (planConditions (run fresh ms) (lentOf (s .marked .state)) bytes) ≡ 0) (given : PlanCheck)
+      (promise : PlanPromise (s .marked .state) bytes given) where
+    pub plan-kept-exactly : (given ≡ plan.Kept) ↔ FullPlan B (slotIn bytes)
+    plan-kept-exactly = let r = runs-represent ms s after in kept-exactly (run fresh ms) (r .0) (s .marked .state) (r .1 .state) bytes passes given promise
+
+    -- and where they use a struck slot a rule is named that they break (5.8)
+    pub plan-struck-broken : (c : ℕ) → c < length (B .counts) → Struck B cause c (slotIn bytes c) → (p : ℕ) × (given ≡ plan.Broken p) × LowestBroken B (slotIn bytes) p
+    plan-struck-broken = let r = runs-represent ms s after in struck-broken (run fresh ms) (r .0) (s .marked .state) (r .1 .state) bytes passes given promise
 
 -- OF TWO LISTS (SCOPE 6.14, 6.21): with the same calls and counts, at least the same rules after the second, and every call that is cancelled after it cancelled after the
 -- first, each slot open after the second is open after the first, on calls cancelled after neither

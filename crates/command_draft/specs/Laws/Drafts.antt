@@ -26,10 +26,10 @@ use Rattle.command_draft.specs.declared.redraft.Redrafted.{Redrafted}
 use Rattle.command_draft.specs.Fields.{headChecks, addRowChecks}
 use Rattle.command_draft.specs.Drafts.{Redraws, draftOf, withSlots, longerRule, withRow}
 use Rattle.command_draft.specs.Laws.Redraft.{new-left, RedraftRight}
-use Rattle.command_draft.specs.Laws.Fields.{any-default, arity-most, draft-limits, head-checks-agree, row-checks-agree}
+use Rattle.command_draft.specs.Laws.Fields.{arity-most, draft-limits, head-checks-agree, row-checks-agree}
 use Rattle.layout.specs.Memory.{stateOf}
 use Rattle.layout.specs.Laws.Memory.{filled}
-use Rattle.tables.specs.Laws.Facts.{lt-or-le}
+use Rattle.tables.specs.Laws.Facts.{any-default, lt-or-le}
 use Rattle.model.specs.Refusals.{firstOf}
 
 -- four fields of which those past the first a are 255: the list of the first a reads the same

@@ -1,10 +1,10 @@
 -- ON A STATE THAT IS A LEDGER'S the first check over the bytes that holds is the ledger's first condition. Assumes nothing.
 use mathlib.Core.Path.{_≡_, refl, ap, _∙_}
 use mathlib.Core.Bool.{Bool, false}
-use mathlib.Core.List.{List, [], _∷_}
+use mathlib.Core.List.{List}
 use mathlib.Core.Logic.{⊎-elim}
 use mathlib.Core.Option.{Option, none, some}
-use Prim.Native.Nat.{ℕ, zero, suc, _+_, _*_, _%_, _<_, _≤_}
+use Prim.Native.Nat.{ℕ, _+_, _*_, _%_, _<_, _≤_}
 use native.Mathlib.Omega.{arith}
 use lib.ListN.{length, getD}
 use lib.Dec.{eqb, ltb, leb}
@@ -27,12 +27,6 @@ use Rattle.command_draft.specs.Fields.{offBoard?, callOffBoard?, callCan
 use Rattle.layout.specs.Places.{cancelled?}
 use Rattle.model.specs.Laws.Search.{some-same, every-same}
 use Rattle.tables.specs.Laws.Facts.{lt-or-le}
-
--- within a list the default does not count
-pub any-default : (d e : ℕ) (xs : List ℕ) (k : ℕ) → k < length xs → getD xs k d ≡ getD xs k e
-any-default d e [] k h = absurd (omega arith)
-any-default d e (x ∷ xs) zero h = refl
-any-default d e (x ∷ xs) (suc k) h = any-default d e xs k (omega arith)
 
 pub arity-most : (n : ℕ) → badArity? n ≡ false → n ≤ 4
 arity-most n e = ltb-false 4 n (or-false (ltb n 1) (ltb 4 n) e .1)

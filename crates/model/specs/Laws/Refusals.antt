@@ -1,7 +1,8 @@
 -- ALL LAWS ABOUT THE FIRST CONDITION THAT HOLDS, over any list: a condition is read by its number and never by its place. Assumes nothing.
-use mathlib.Core.Path.{_≡_, refl, sym, _∙_}
+use mathlib.Core.Path.{_≡_, refl, sym, ap, _∙_}
 use mathlib.Core.Bool.{Bool, true, false, _&&_, cond}
 use mathlib.Core.List.{List, [], _∷_, _++_}
+use mathlib.Core.Logic.{_≢_}
 use Prim.Native.Nat.{ℕ, zero, suc}
 use native.Mathlib.Omega.{arith}
 use lib.Dec.{T, eqb}
@@ -83,3 +84,11 @@ agree-first (next {b} {c} {n} {xs} {ys} same rest) = rw same (go c (λ e. agree-
     go : (c : Bool) → (c ≡ false → firstOf xs ≡ firstOf ys) → cond c n (firstOf xs) ≡ cond c n (firstOf ys)
     go true ih = refl
     go false ih = ih refl
+
+-- AN ANSWER BY A NUMBER that is not 0 is the refusal
+pub refused-by : {A : Type 0} (refused by : ℕ → A) → ((n : ℕ) → refused (suc n) ≡ by (suc n)) → {n m : ℕ} → n ≡ m → n ≢ 0 → refused n ≡ by m
+refused-by refused by same {n} e r = go n r ∙ ap by e
+  where
+    go : (n : ℕ) → n ≢ 0 → refused n ≡ by n
+    go zero r = absurd (r refl)
+    go (suc n) r = same n

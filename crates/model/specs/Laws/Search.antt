@@ -5,7 +5,7 @@ use mathlib.Core.Bool.{Bool, true, false}
 use Prim.Native.Nat.{ℕ, zero, suc, _+_, _<_, _≤_}
 use native.Mathlib.Numerals.{add-one}
 use native.Mathlib.Omega.{arith}
-use Rattle.model.specs.Tests.{some?, every?}
+use Rattle.model.specs.Tests.{some?, every?, first}
 use Rattle.model.specs.Laws.Tests.{some→, →some, every→, →T, T→, not→}
 use Rattle.tables.specs.Laws.Facts.{true-false}
 
@@ -59,3 +59,12 @@ some-same (suc n) f g same = let e = some-same n f g (λ i h. same i (omega arit
 pub every-same : (n : ℕ) (f g : ℕ → Bool) → ((i : ℕ) → i < n → f i ≡ g i) → every? n f ≡ every? n g
 every-same zero f g same = refl
 every-same (suc n) f g same = let e = every-same n f g (λ i h. same i (omega arith)) in let d = same n (omega arith) in rw (e, d) refl
+
+-- and the same first number
+pub first-same : (n : ℕ) (f g : ℕ → Bool) → ((i : ℕ) → i < n → f i ≡ g i) → first n f ≡ first n g
+first-same zero f g same = refl
+first-same (suc n) f g same =
+    let e = some-same n f g (λ i h. same i (omega arith)) in
+    let d = first-same n f g (λ i h. same i (omega arith)) in
+    let x = same n (omega arith) in
+    rw (e, d, x) refl

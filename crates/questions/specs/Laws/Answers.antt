@@ -1,10 +1,10 @@
 -- WHAT A QUESTION'S FUNCTION SHOWS of its answer, to meet its promise: where the number n of its checks is not 0 the answer is that refusal, and where n is
 -- 0 the answer is read off the bytes. Assumes nothing.
-use mathlib.Core.Path.{_≡_, refl, sym, ap, subst, _∙_}
+use mathlib.Core.Path.{_≡_, refl, sym, subst, _∙_}
 use mathlib.Core.Bool.{Bool, true, false, cond}
 use mathlib.Core.List.{[]}
 use mathlib.Core.Logic.{_≢_}
-use Prim.Native.Nat.{ℕ, zero, suc, _+_, _*_}
+use Prim.Native.Nat.{ℕ, _+_, _*_}
 use native.Mathlib.Omega.{arith}
 use lib.ListN.{take, drop}
 use lib.Dec.{eqb}
@@ -24,14 +24,7 @@ use Rattle.layout.specs.Memory.{State}
 use Rattle.questions.specs.Parts.{activeSupport}
 use Rattle.questions.specs.Laws.Mask.{ones-mask}
 use Rattle.model.specs.Refusals.{firstOf}
-
--- an answer by a number that is not 0 is the refusal
-refused-by : {A : Type 0} (refused by : ℕ → A) → ((n : ℕ) → refused (suc n) ≡ by (suc n)) → {n m : ℕ} → n ≡ m → n ≢ 0 → refused n ≡ by m
-refused-by refused by same {n} e r = go n r ∙ ap by e
-  where
-    go : (n : ℕ) → n ≢ 0 → refused n ≡ by n
-    go zero r = absurd (r refl)
-    go (suc n) r = same n
+use Rattle.model.specs.Laws.Refusals.{refused-by}
 
 module _ (s : State) {n : ℕ} where
   pub slots-refused : (c : ℕ) → n ≡ firstOf (callChecks s c) → n ≢ 0 → SlotsPromise s c (slots.Refused n)

@@ -7,7 +7,7 @@ use lib.ListN.{getD}
 use lib.Dec.{eqb, leb}
 use borrow.Author.Tests.{eq-eqb, ne-eqb, le-leb, lt-leb}
 use Rattle.model.specs.Laws.Search.{NoneBelow, none-all, none-more, none-found, some-found}
-use Rattle.command_draft.specs.Laws.Fields.{any-default}
+use Rattle.tables.specs.Laws.Facts.{any-default}
 use borrow.Author.Needs.{needs}
 use Rattle.command_draft.proofs.fields.bad_spare.Statement.{statement}
 use Rattle.command_draft.proofs.fields.bad_spare.Tie as tie

@@ -5,7 +5,7 @@ use native.Mathlib.Omega.{arith}
 use lib.ListN.{getD}
 use Rattle.layout.specs.Places.{cancelled?}
 use Rattle.model.specs.Laws.Search.{NoneBelow, none-start, none-more, none-found, some-found}
-use Rattle.command_draft.specs.Laws.Fields.{any-default}
+use Rattle.tables.specs.Laws.Facts.{any-default}
 use borrow.Author.Needs.{needs}
 use Rattle.command_draft.proofs.fields.call_cancelled.Statement.{statement}
 use Rattle.command_draft.proofs.fields.call_cancelled.Tie as tie

@@ -5,7 +5,7 @@ use native.Mathlib.Omega.{arith}
 use lib.ListN.{getD}
 use Rattle.command_draft.specs.Fields.{offBoard?}
 use Rattle.model.specs.Laws.Search.{NoneBelow, none-start, none-more, none-found, some-found}
-use Rattle.command_draft.specs.Laws.Fields.{any-default}
+use Rattle.tables.specs.Laws.Facts.{any-default}
 use borrow.Author.Needs.{needs}
 use Rattle.command_draft.proofs.fields.call_off_board.Statement.{statement}
 use Rattle.command_draft.proofs.fields.call_off_board.Tie as tie

@@ -1,7 +1,7 @@
 -- The code's test is the definition's, read within the four slots.
 use native.Mathlib.Omega.{arith}
 use mathlib.Core.Path.{refl}
-use Rattle.command_draft.specs.Laws.Fields.{any-default}
+use Rattle.tables.specs.Laws.Facts.{any-default}
 use borrow.Author.Needs.{needs}
 use Rattle.command_draft.proofs.fields.off_call.Statement.{statement}
 use Rattle.command_draft.proofs.fields.off_call.Tie as tie

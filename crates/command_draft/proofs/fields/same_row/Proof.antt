@@ -5,7 +5,7 @@ use lib.ListN.{getD}
 use lib.Dec.{eqb}
 use borrow.Author.Tests.{eq-eqb, ne-eqb}
 use Rattle.model.specs.Laws.Search.{EachBelow, each-start, each-more, each-found, other-found}
-use Rattle.command_draft.specs.Laws.Fields.{any-default}
+use Rattle.tables.specs.Laws.Facts.{any-default}
 use borrow.Author.Needs.{needs}
 use Rattle.command_draft.proofs.fields.same_row.Statement.{statement}
 use Rattle.command_draft.proofs.fields.same_row.Tie as tie

@@ -3,7 +3,7 @@ use mathlib.Core.List.{[]}
 use borrow.Author.Needs.{needs}
 use borrow.Author.Tests.{lt-ltb, le-ltb}
 use Rattle.layout.specs.Memory.{State}
-use Rattle.questions.specs.Parts.{stateOfParts}
+use Rattle.layout.specs.Memory.{stateOfParts}
 use Rattle.questions.specs.Laws.Answers.{row-found}
 use Rattle.questions.proofs.read.lowest_support.Statement.{statement}
 use Rattle.questions.proofs.read.lowest_support.Tie as tie

@@ -10,7 +10,7 @@ use Rattle.model.specs.Tests.{some?}
 use Rattle.model.specs.Questions.{supports?}
 use Rattle.model.specs.Laws.Tests.{→T}
 use Rattle.model.specs.Laws.Questions.{first-none, first-found}
-use Rattle.questions.specs.Parts.{stateOfParts}
+use Rattle.layout.specs.Memory.{stateOfParts}
 use Rattle.questions.proofs.read.supporting_row.Statement.{statement}
 use Rattle.questions.proofs.read.supporting_row.Tie as tie
 

@@ -3,7 +3,7 @@ use mathlib.Core.List.{[]}
 use borrow.Author.Needs.{needs}
 use Rattle.model.specs.Questions.{ruleChecks, supportChecks}
 use Rattle.model.specs.Laws.Refusals.{chain-first}
-use Rattle.questions.specs.Parts.{stateOfParts}
+use Rattle.layout.specs.Memory.{stateOfParts}
 use Rattle.questions.proofs.refusal.support_refusal.Statement.{statement}
 use Rattle.questions.proofs.refusal.support_refusal.Tie as tie
 

@@ -1,0 +1,4 @@
+pub mod Plans
+pub mod Check
+pub mod Samples
+pub mod Laws
