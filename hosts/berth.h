@@ -350,8 +350,8 @@ struct berth_support_reply berth_support(struct berth_value value, const uint8_t
                                          const uint8_t *slots, size_t slots_length, uint8_t rule, uint8_t column, uint8_t slot);
 
 /*
- * A plan from elsewhere, of BERTH_PLAN bytes: byte c is the slot of call c, and BERTH_NONE where the call is cancelled or not on the board. It is kept when every
- * rule in force has a row with, in each column whose call is not cancelled, the plan's slot for that call; a rule all of whose calls are cancelled asks nothing.
+ * A plan from elsewhere, of BERTH_PLAN bytes: byte c is the slot of call c, and BERTH_NONE where the call is cancelled or not on the board. It is kept if
+ * each rule in force has a row that agrees with it in every column, those of cancelled calls left out; a rule all of whose calls are cancelled asks nothing.
  * A struck slot is a slot of its call, so it is not refused; but a plan with one breaks some rule, which need not be on that call. Checked: 1, 32, 6, 33.
  */
 struct berth_plan_reply {

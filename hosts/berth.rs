@@ -507,7 +507,7 @@ pub mod lent {
             answer(reply.number, given)
         }
 
-        /// Whether the plan, `PLAN` bytes, keeps every rule in force; struck slots are slots of their calls here, and break a rule.
+        /// Whether the plan, `PLAN` bytes, keeps every rule in force. A struck slot is not refused, since it is one of its call's; a plan with one breaks a rule.
         pub fn check_plan(self, plan: &[u8]) -> Answer<PlanCheck> {
             let reply = ask!(berth_check_plan, self, plan.as_ptr(), plan.len());
             let given = match reply.byte {
@@ -666,7 +666,7 @@ impl Board {
         self.memory().support(rule, column, slot)
     }
 
-    /// Whether the plan, `PLAN` bytes, keeps every rule in force, or else the lowest number of one that it breaks. A plan that uses a struck slot breaks one.
+    /// Whether the plan, `PLAN` bytes, keeps every rule in force; where it does not, the lowest of the broken rules. A plan that uses a struck slot breaks one.
     pub fn check_plan(&self, plan: &[u8]) -> Answer<PlanCheck> {
         self.memory().check_plan(plan)
     }

@@ -172,7 +172,7 @@ pub extern "C" fn berth_support(
     berth_reply::of_support(questions::support(value, rows, killers, slots, rule, column, slot))
 }
 
-// Whether a plan of 32 bytes keeps every rule in force, or else the lowest number of one that it breaks.
+// Whether a plan of 32 bytes keeps every rule in force; where it does not, the lowest of the broken rules.
 #[no_mangle]
 pub extern "C" fn berth_check_plan(
     value: Value,
