@@ -5,3 +5,4 @@ pub mod Stays
 pub mod Memory
 pub mod Full
 pub mod First
+pub mod Moves
