@@ -6,3 +6,5 @@ pub mod Memory
 pub mod Full
 pub mod First
 pub mod Moves
+pub mod Exactly
+pub mod Checked
