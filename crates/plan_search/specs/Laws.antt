@@ -8,3 +8,4 @@ pub mod First
 pub mod Moves
 pub mod Exactly
 pub mod Checked
+pub mod Samples

@@ -49,8 +49,8 @@ pub data Leads (t : Task) : Position → Position → Type 0 where
   moves : {x y z : Position} → Move t x y → Leads t y z → Leads t x z
 
 -- it begins with the first slot of the first call and no call laid, and has ended where there is no move
-abbrev pub start : Position
-start = trying 0 0 noPlan 0
+abbrev pub searchStart : Position
+searchStart = trying 0 0 noPlan 0
 
 abbrev pub Final : Task → Position → Type 0
 Final t x = (y : Position) → Move t x y → ⊥

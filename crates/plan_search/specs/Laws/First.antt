@@ -1,7 +1,6 @@
 -- THE EQUATION SAYS WHAT THE ANSWER MEANS, on a state that is a ledger's. Assumes nothing.
 use mathlib.Core.Path.{_≡_, refl, sym, ap, subst, _∙_}
 use mathlib.Core.Bool.{Bool, true, false, cond}
-use mathlib.Core.List.{List}
 use Prim.Native.Nat.{ℕ, zero, suc}
 use lib.Dec.{leb}
 use borrow.Author.Tests.{leb-true, leb-false}
@@ -56,13 +55,13 @@ module _ (B : Board) (shape : Shape B) (ceiling : ℕ) where
                 size = found-size B shape q n e;
                 blank = found-blank B shape q n e;
                 fulfils = found-full B shape q n e;
-                earliest = found-first B shape q n e;
+                earliest = λ P f b. absurd (found-first B shape q n e P f b);
               }
           by false l = record { count = refl; more = rw e (leb-false n ceiling l); blank = refl }
       go (nothing n) e = by (leb n ceiling) refl
         where
           by : (b : Bool) → leb n ceiling ≡ b → Means (cond b (none n) stopped)
-          by true l = record { count = sym (ap trials e); within = leb-true n ceiling l; never = nothing-none B shape n e; blank = refl }
+          by true l = record { count = sym (ap trials e); within = leb-true n ceiling l; never = λ P f. absurd (nothing-none B shape n e P f); blank = refl }
           by false l = record { count = refl; more = rw e (leb-false n ceiling l); blank = refl }
 
 -- THE PROMISE
@@ -72,22 +71,22 @@ module _ (s : State) (ceiling : ℕ) where
 
   module _ (L : Ledger) (shape : LedgerShape L) (rep : Represents L s) where
     -- the checks off the value are the conditions off the ledger
-    checks-same : firstOf (boardChecks s) ≡ firstOf (boardConditions L (lentOf s))
-    checks-same = let e = no-calls (L .board) (shape .board) (s .value .heads) (rep .stored .headed) in rw e refl
+    board-checks : firstOf (boardChecks s) ≡ firstOf (boardConditions L (lentOf s))
+    board-checks = let e = no-calls (L .board) (shape .board) (s .value .heads) (rep .stored .headed) in rw e refl
 
     -- and where none holds the answer is that of the search on the board
     answer-searched : firstOf (boardConditions L (lentOf s)) ≡ 0 → firstAnswer s ceiling ≡ endedAnswer ceiling (cut ceiling (searchAll (boardTask (L .board))))
     answer-searched z =
-        ap (λ (n : ℕ). firstBy n ceiling searched) (checks-same ∙ z) ∙ ap (λ (r : Result). endedAnswer ceiling (cut ceiling r)) (search-board L shape s rep)
+        ap (λ (n : ℕ). firstBy n ceiling searched) (board-checks ∙ z) ∙ ap (λ (r : Result). endedAnswer ceiling (cut ceiling r)) (search-board L shape s rep)
 
     first-answered : FirstAnswered L s ceiling (firstAnswer s ceiling)
     first-answered =
         record {
-          number = first-number ceiling searched (firstOf (boardChecks s)) ∙ checks-same;
+          number = first-number ceiling searched (firstOf (boardChecks s)) ∙ board-checks;
           values = first-values ceiling searched (firstOf (boardChecks s))
               ∙ ap (λ (r : Result). valuesAt (firstOf (boardChecks s)) (firstValues (endedAnswer ceiling (cut ceiling r) .answer))) (search-board L shape s rep)
-              ∙ ap (λ (n : ℕ). valuesAt n (firstValues (endedAnswer ceiling (cut ceiling (searchAll (boardTask (L .board)))) .answer))) checks-same;
-          refused = λ n z. refused-plan ceiling searched (firstOf (boardChecks s)) n (checks-same ∙ z);
+              ∙ ap (λ (n : ℕ). valuesAt n (firstValues (endedAnswer ceiling (cut ceiling (searchAll (boardTask (L .board)))) .answer))) board-checks;
+          refused = λ n z. refused-plan ceiling searched (firstOf (boardChecks s)) n (board-checks ∙ z);
           searched = answer-searched;
           means = λ z.
               subst (λ (a : PlanAnswer). FirstMeans (L .board) ceiling (a .plan) (a .answer)) (sym (answer-searched z))

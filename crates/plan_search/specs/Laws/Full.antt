@@ -7,12 +7,11 @@ use mathlib.Core.List.{List}
 use mathlib.Core.Logic.{_⊎_, inl, inr, ⊎-elim}
 use Prim.Native.Nat.{ℕ, suc, _<_, _≤_}
 use native.Mathlib.Omega.{arith}
-use native.Mathlib.Nat.{eq-or-lt-of-le}
 use lib.ListN.{length, set, length-set, length-replicate, getD-replicate, List·getD-eq-default}
 use lib.Seq.{getD-set-same, getD-set-other}
 use lib.Dec.{T, ltb, ltb→lt, lt→ltb}
 use Rattle.tables.specs.Laws.Facts.{true-false, true-or-false, lt-or-le, eq-or-ne}
-use Rattle.model.specs.Board.{Rule, Board, callAt, slotAt, cancelledOn?, live?, Live, Cancelled, OnBoard, InForce, Active, KeepsRule, FullPlan, Shape, noSlotGiven}
+use Rattle.model.specs.Board.{Board, callAt, cancelledOn?, live?, Live, Cancelled, OnBoard, InForce, Active, KeepsRule, FullPlan, Shape, noSlotGiven}
 use Rattle.model.specs.Representation.{ruleOr, ruleAt}
 use Rattle.model.specs.Laws.Filter.{found-viable}
 use Rattle.model.specs.Laws.Tests.{and→, →and, →T, T→, T?, not→}

@@ -3,15 +3,15 @@ use mathlib.Core.Path.{_≡_, refl, ap, _∙_}
 use mathlib.Core.Bool.{Bool, true, false, not, _&&_, _||_, cond}
 use mathlib.Core.List.{List}
 use mathlib.Core.Logic.{⊎-elim}
-use Prim.Native.Nat.{ℕ, suc, _<_}
+use Prim.Native.Nat.{ℕ, _<_}
 use native.Mathlib.Omega.{arith}
 use lib.ListN.{length, getD, List·getD-eq-default}
-use lib.Dec.{T, eqb, ltb, eqb→eq}
+use lib.Dec.{eqb, eqb→eq}
 use borrow.Author.Tests.{lt-ltb, le-ltb, ne-eqb}
 use Rattle.tables.specs.Laws.Facts.{lt-or-le}
 use Rattle.layout.specs.Places.{causeOf}
 use Rattle.layout.specs.Memory.{State}
-use Rattle.model.specs.Board.{Board, Shape, slotsOn, cancelledOn?, live?}
+use Rattle.model.specs.Board.{Board, Shape, slotsOn, cancelledOn?}
 use Rattle.model.specs.Tests.{some?, every?}
 use Rattle.model.specs.Ledger.{Ledger, LedgerShape}
 use Rattle.model.specs.Representation.{Represents}
@@ -20,7 +20,7 @@ use Rattle.model.specs.Report.{open?}
 use Rattle.model.specs.Laws.Filter.{found-viable}
 use Rattle.model.specs.Laws.Tests.{same-test, →eqb}
 use Rattle.model.specs.Laws.Search.{some-same, every-same}
-use Rattle.plan_model.specs.Plans.{RulesRead, rulesOf, rulesIn, fitted?, slotsOnIn}
+use Rattle.plan_model.specs.Plans.{RulesRead, rulesOf, rulesIn, fitted?}
 use Rattle.plan_model.specs.Laws.Memory.{SameRead, off-same, fitted-same, same-read, slots-on-held}
 use Rattle.plan_search.specs.Search.{laid?, due?, stays?}
 use Rattle.plan_search.specs.First.{noPlan, boardTask, memoryTask, searchAll}

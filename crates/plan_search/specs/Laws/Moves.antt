@@ -5,7 +5,7 @@ use mathlib.Core.List.{List}
 use mathlib.Core.Logic.{_⊎_, inl, inr}
 use Prim.Native.Nat.{ℕ, zero, suc, _+_, _<_, _≤_}
 use native.Mathlib.Omega.{arith}
-use lib.ListN.{length, getD, set, length-set, length-replicate}
+use lib.ListN.{length, set, length-set, length-replicate}
 use lib.Seq.{getD-set-same, getD-set-other, set-set, set-getD}
 use lib.Dec.{ltb}
 use borrow.Author.Tests.{lt-ltb}
@@ -14,7 +14,7 @@ use Rattle.model.specs.Board.{noSlotGiven}
 use Rattle.plan_model.specs.Plans.{slotIn}
 use Rattle.plan_search.specs.Search.{Result, found, nothing, after, orNext, Task, tries, search}
 use Rattle.plan_search.specs.First.{noPlan, searchAll}
-use Rattle.plan_search.specs.Moves.{Position, trying, backtracking, complete, exhausted, Move, finishes, skips-call, skips-slot, lays-slot, lays-in-vain, runs-out, retries, skips-back, gives-up, Leads, rests, moves, start, Final, endOf}
+use Rattle.plan_search.specs.Moves.{Position, trying, backtracking, complete, exhausted, Move, finishes, skips-call, skips-slot, lays-slot, lays-in-vain, runs-out, retries, skips-back, gives-up, Leads, rests, moves, searchStart, Final, endOf}
 use Rattle.plan_search.specs.Laws.Search.{tries-end, tries-closed, tries-stays, tries-leaves, search-end, search-skips, search-lays}
 use Rattle.plan_search.specs.Laws.Full.{no-slot}
 
@@ -121,13 +121,13 @@ module _ (t : Task) where
           over (nothing m) f = moves (skips-call {c = c} (omega arith) l) (joins f (moves (skips-back l) rests))
 
   -- THE MACHINE COMES TO THE END that the search says, from the first call on
-  pub start-leads : Leads t start (endOf (searchAll t))
+  pub start-leads : Leads t searchStart (endOf (searchAll t))
   unfolding searchAll
   start-leads =
       go (search t 32 0 noPlan)
       (search-leads 32 0 0 noPlan refl (record { size = length-replicate {A = ℕ} 32 noSlotGiven; none = λ d h. no-slot d }))
     where
-      go : (r : Result) → ComesTo t start 0 noPlan 0 r → Leads t start (endOf r)
+      go : (r : Result) → ComesTo t searchStart 0 noPlan 0 r → Leads t searchStart (endOf r)
       go (found q n) f = let z : 0 + n ≡ n = omega arith in rw z at f
       go (nothing n) f = let z : 0 + n ≡ n = omega arith in joins (rw z at f) (moves gives-up rests)
 
@@ -192,5 +192,5 @@ end-final t (found q n) y m = true-false refl (still-moving m)
 end-final t (nothing n) y m = true-false refl (still-moving m)
 
 -- HOWEVER THE MACHINE COMES TO AN END from the first call on, it is the one that the search says
-pub only-end : (t : Task) (x : Position) → Leads t start x → Final t x → x ≡ endOf (searchAll t)
+pub only-end : (t : Task) (x : Position) → Leads t searchStart x → Final t x → x ≡ endOf (searchAll t)
 only-end t x f e = one-end f (start-leads t) e (end-final t (searchAll t))
