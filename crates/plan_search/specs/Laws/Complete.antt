@@ -77,12 +77,14 @@ module _ (t : Task) where
 
   module _ (Inv : ℕ → List ℕ → Type 0)
       (skip : (c : ℕ) (plan : List ℕ) → c < 32 → Inv c plan → t .lays c ≡ false → Inv (suc c) plan)
-      (lay : (c s : ℕ) (plan : List ℕ) → c < 32 → s < 32 → Inv c plan → t .lays c ≡ true → t .opens c s ≡ true → t .stays c (set plan c s) ≡ true → Inv (suc c) (set plan c s)) where
+      (lay : (c s : ℕ) (plan : List ℕ) → c < 32 → s < 32 → Inv c plan → t .lays c ≡ true → t .opens c s ≡ true → t .stays c (set plan c s) ≡ true
+      → Inv (suc c) (set plan c s)) where
     pub search-invariant : (n c : ℕ) (plan : List ℕ) → c + n ≡ 32 → Inv c plan → IfFound (Inv 32) (search t n c plan)
     search-invariant zero c plan e i = let z : c ≡ 32 = omega arith in rw (search-end t c plan, ← z) i
     search-invariant (suc n) c plan e i = go (true-or-false (t .lays c)) (λ plan i. search-invariant n (suc c) plan (omega arith) i)
       where
-        go : (t .lays c ≡ true) ⊎ (t .lays c ≡ false) → ((plan : List ℕ) → Inv (suc c) plan → IfFound (Inv 32) (search t n (suc c) plan)) → IfFound (Inv 32) (search t (suc n) c plan)
+        go : (t .lays c ≡ true) ⊎ (t .lays c ≡ false) → ((plan : List ℕ) → Inv (suc c) plan → IfFound (Inv 32) (search t n (suc c) plan))
+            → IfFound (Inv 32) (search t (suc n) c plan)
         go (inl l) ih =
             rw (search-lays t n c plan l)
             (tries-invariant (Inv 32) (λ laid. search t n (suc c) laid) c plan

@@ -12,7 +12,7 @@ use Rattle.tables.specs.Laws.Facts.{true-false, true-or-false}
 use Rattle.plan_search.specs.Search.{Result, found, nothing, after, orNext, Task, tries, search}
 use Rattle.plan_search.specs.First.{Ended, full, none, stopped, cut}
 
--- THE CLAUSES
+-- THE CLAUSES of the search, as equations
 module _ (t : Task) (deeper : List ℕ → Result) (c m s : ℕ) (plan : List ℕ) where
   pub tries-closed : t .opens c s ≡ false → tries t deeper c (suc m) s plan ≡ tries t deeper c m (suc s) plan
   unfolding tries
@@ -60,7 +60,8 @@ module _ (t t′ : Task) where
     tries-same zero s e = tries-end t deeper c s plan ∙ sym (tries-end t′ deeper′ c s plan)
     tries-same (suc m) s e = go (true-or-false (t .opens c s)) (tries-same m (suc s) (omega arith))
       where
-        behind : t .opens c s ≡ true → (b : Bool) → t .stays c (set plan c s) ≡ b → cond b (deeper (set plan c s)) (nothing 0) ≡ cond b (deeper′ (set plan c s)) (nothing 0)
+        behind : t .opens c s ≡ true → (b : Bool) → t .stays c (set plan c s) ≡ b
+            → cond b (deeper (set plan c s)) (nothing 0) ≡ cond b (deeper′ (set plan c s)) (nothing 0)
         behind o true x = each s (omega arith) o x
         behind o false x = refl
 
@@ -75,10 +76,12 @@ module _ (t t′ : Task) where
 
   module _ (Inv : ℕ → List ℕ → Type 0)
       (skip : (c : ℕ) (plan : List ℕ) → c < 32 → Inv c plan → t .lays c ≡ false → Inv (suc c) plan)
-      (lay : (c s : ℕ) (plan : List ℕ) → c < 32 → s < 32 → Inv c plan → t .lays c ≡ true → t .opens c s ≡ true → t .stays c (set plan c s) ≡ true → Inv (suc c) (set plan c s))
+      (lay : (c s : ℕ) (plan : List ℕ) → c < 32 → s < 32 → Inv c plan → t .lays c ≡ true → t .opens c s ≡ true → t .stays c (set plan c s) ≡ true
+      → Inv (suc c) (set plan c s))
       (lays : (c : ℕ) → c < 32 → t .lays c ≡ t′ .lays c)
       (opens : (c s : ℕ) → c < 32 → s < 32 → t .opens c s ≡ t′ .opens c s)
-      (stays : (c s : ℕ) (plan : List ℕ) → c < 32 → s < 32 → Inv c plan → t .lays c ≡ true → t .opens c s ≡ true → t .stays c (set plan c s) ≡ t′ .stays c (set plan c s)) where
+      (stays : (c s : ℕ) (plan : List ℕ) → c < 32 → s < 32 → Inv c plan → t .lays c ≡ true → t .opens c s ≡ true
+      → t .stays c (set plan c s) ≡ t′ .stays c (set plan c s)) where
     pub search-same : (n c : ℕ) (plan : List ℕ) → c + n ≡ 32 → Inv c plan → search t n c plan ≡ search t′ n c plan
     search-same zero c plan e i = search-end t c plan ∙ sym (search-end t′ c plan)
     search-same (suc n) c plan e i = go (true-or-false (t .lays c)) (λ plan i. search-same n (suc c) plan (omega arith) i)
