@@ -18,7 +18,7 @@ pub data Position : Type 0 where
   complete : List ℕ → ℕ → Position
   exhausted : ℕ → Position
 
--- ONE MOVE
+-- ONE MOVE (SCOPE 5.9). The two that lay a slot, and no other, raise the count (5.10)
 pub data Move (t : Task) : Position → Position → Type 0 where
   -- every call is passed
   finishes : {plan : List ℕ} {k : ℕ} → Move t (trying 32 0 plan k) (complete plan k)

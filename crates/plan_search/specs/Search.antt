@@ -27,7 +27,7 @@ pub data Result : Type 0 where
   found : List ℕ → ℕ → Result
   nothing : ℕ → Result
 
--- a result with n trials before it
+-- a result with n trials before it (SCOPE 5.10)
 abbrev pub after : ℕ → Result → Result
 after n (found plan m) = found plan (n + m)
 after n (nothing m) = nothing (n + m)
