@@ -1,0 +1,5 @@
+pub mod Search
+pub mod First
+pub mod Moves
+pub mod Samples
+pub mod Laws
