@@ -1,0 +1,81 @@
+// The checks of the question, and the search from the tables to the answer.
+use crate::due::due_rules;
+use crate::lay::Ending;
+use crate::lay::Laid;
+use crate::lay::lay_calls;
+use crate::tables::call_bytes;
+use crate::tables::column_masks;
+use crate::tables::open_masks;
+use crate::tables::rule_columns;
+use layout::value::bad_lengths;
+use model::refusal::BUFFER_LENGTH;
+use model::refusal::NO_BOARD;
+use model::refusal::or_refuse;
+use plan_search::answer::FirstPlan;
+use plan_search::answer::PlanAnswer;
+ghost use mathlib.Core.Path.{_≡_};
+ghost use lib.ListN.{length};
+ghost use Rattle.layout.specs.Sizes.{slotsLength, rowsLength};
+ghost use Rattle.model.specs.Refusals.{firstOf};
+ghost use Rattle.model.specs.Questions.{boardChecks};
+
+// The number of the first check that holds, 1 or 6, or 0.
+pub fn board_refusal(counts: &[u8; 32], rows: &[u8], killers: &[u8], slots: &[u8]) -> u8
+{
+    let n = or_refuse(0, bad_lengths(rows, killers, slots), BUFFER_LENGTH);
+    or_refuse(n, counts[0] == 0, NO_BOARD)
+}
+
+// The search from the first call on, with no call laid.
+fn lay_all(
+    rows: &[u8],
+    lengths: &[u8; 64],
+    columns: &[u8; 256],
+    opened: &[u32; 32],
+    calls: &[u8; 32],
+    ceiling: u32,
+) -> Laid
+{
+    let masks = column_masks(columns);
+    let due = due_rules(calls, columns);
+    lay_calls(rows, lengths, columns, &masks, &due, opened, calls, [255u8; 32], 0, 0, ceiling)
+}
+
+// The same off the value and the bytes.
+pub fn lay_plan(
+    counts: &[u8; 32],
+    arity: &[u8; 64],
+    scope: &[u8; 256],
+    lengths: &[u8; 64],
+    rows: &[u8],
+    slots: &[u8],
+    ceiling: u32,
+) -> Laid
+{
+    let columns = rule_columns(arity, scope, slots);
+    let calls = call_bytes(counts, slots);
+    let opened = open_masks(slots);
+    lay_all(rows, lengths, &columns, &opened, &calls, ceiling)
+}
+
+// The answer that a search ends with.
+pub fn plan_answer(laid: Laid, ceiling: u32) -> PlanAnswer
+{
+    let ending = laid.ending;
+    let trials = laid.trials;
+    let plan = laid.plan;
+    match ending {
+        Ending::Found => PlanAnswer {
+            answer: FirstPlan::Found(trials),
+            plan,
+        },
+        Ending::Nothing => PlanAnswer {
+            answer: FirstPlan::Nothing(trials),
+            plan: [255u8; 32],
+        },
+        Ending::Stopped => PlanAnswer {
+            answer: FirstPlan::Stopped(ceiling),
+            plan: [255u8; 32],
+        },
+    }
+}

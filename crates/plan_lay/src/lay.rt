@@ -1,0 +1,110 @@
+// The search by the tables: a slot for each call in rising order, and back to the call before where none is left.
+use crate::fit::rules_fit;
+ghost use mathlib.Core.Path.{_≡_};
+ghost use Prim.Native.Nat.{_+_, _<_, _≤_};
+ghost use lib.ListN.{length};
+ghost use Rattle.layout.specs.Sizes.{rowsLength};
+
+// How the calls behind a slot ended.
+pub enum Ending {
+    Found,
+    // no slot is left
+    Nothing,
+    // a slot was left, and no trial
+    Stopped,
+}
+
+// The same with the plan, where one is found, and the trials of the search so far.
+pub struct Laid {
+    pub plan: [u8; 32],
+    pub ending: Ending,
+    pub trials: u32,
+}
+
+// The first slot of the mask from `slot` on; 32 where there is none.
+fn next_open(mask: u32, slot: usize) -> usize
+    requires { ⌜ slot ≤ 32 ⌝ }
+{
+    if 32 <= slot {
+        return 32;
+    }
+    let above = mask >> (slot as u32);
+    if above == 0 {
+        return 32;
+    }
+    slot + (u32::trailing_zeros(above) as usize)
+}
+
+// Lays the calls from `call` on.
+pub fn lay_calls(
+    rows: &[u8],
+    lengths: &[u8; 64],
+    columns: &[u8; 256],
+    masks: &[u32; 64],
+    due: &[u64; 32],
+    opened: &[u32; 32],
+    calls: &[u8; 32],
+    plan: [u8; 32],
+    trials: u32,
+    call: usize,
+    ceiling: u32,
+) -> Laid
+{
+    if 32 <= call {
+        return Laid {
+            plan,
+            ending: Ending::Found,
+            trials,
+        };
+    }
+    if calls[call] == 0 {
+        return lay_calls(rows, lengths, columns, masks, due, opened, calls, plan, trials, call + 1, ceiling);
+    }
+    lay_slots(rows, lengths, columns, masks, due, opened, calls, plan, trials, call, 0, ceiling)
+}
+
+// Lays the slots of a call from `slot` on, and behind each that stays the calls after it.
+fn lay_slots(
+    rows: &[u8],
+    lengths: &[u8; 64],
+    columns: &[u8; 256],
+    masks: &[u32; 64],
+    due: &[u64; 32],
+    opened: &[u32; 32],
+    calls: &[u8; 32],
+    plan: [u8; 32],
+    trials: u32,
+    call: usize,
+    slot: usize,
+    ceiling: u32,
+) -> Laid
+{
+    let s = next_open(opened[call], slot);
+    if 32 <= s {
+        return Laid {
+            plan,
+            ending: Ending::Nothing,
+            trials,
+        };
+    }
+    if ceiling <= trials {
+        return Laid {
+            plan,
+            ending: Ending::Stopped,
+            trials,
+        };
+    }
+    let mut laid = plan;
+    laid[call] = s as u8;
+    if !rules_fit(rows, lengths, columns, masks, &laid, due[call]) {
+        return lay_slots(rows, lengths, columns, masks, due, opened, calls, plan, trials + 1, call, s + 1, ceiling);
+    }
+    let behind = lay_calls(rows, lengths, columns, masks, due, opened, calls, laid, trials + 1, call + 1, ceiling);
+    let ending = behind.ending;
+    let spent = behind.trials;
+    match ending {
+        Ending::Found => behind,
+        Ending::Stopped => behind,
+        Ending::Nothing => lay_slots(rows, lengths, columns, masks, due, opened, calls, plan, spent, call, s + 1, ceiling),
+    }
+}
