@@ -3,10 +3,10 @@ use crate::due::due_rules;
 use crate::lay::Ending;
 use crate::lay::Laid;
 use crate::lay::lay_calls;
-use crate::tables::call_bytes;
-use crate::tables::column_masks;
-use crate::tables::open_masks;
-use crate::tables::rule_columns;
+use crate::lookup::call_slots;
+use crate::lookup::column_masks;
+use crate::lookup::open_masks;
+use crate::lookup::rule_columns;
 use layout::value::bad_lengths;
 use model::refusal::BUFFER_LENGTH;
 use model::refusal::NO_BOARD;
@@ -20,8 +20,7 @@ ghost use Rattle.model.specs.Refusals.{firstOf};
 ghost use Rattle.model.specs.Questions.{boardChecks};
 
 // The number of the first check that holds, 1 or 6, or 0.
-pub fn board_refusal(counts: &[u8; 32], rows: &[u8], killers: &[u8], slots: &[u8]) -> u8
-{
+pub fn board_refusal(counts: &[u8; 32], rows: &[u8], killers: &[u8], slots: &[u8]) -> u8 {
     let n = or_refuse(0, bad_lengths(rows, killers, slots), BUFFER_LENGTH);
     or_refuse(n, counts[0] == 0, NO_BOARD)
 }
@@ -34,11 +33,22 @@ fn lay_all(
     opened: &[u32; 32],
     calls: &[u8; 32],
     ceiling: u32,
-) -> Laid
-{
+) -> Laid {
     let masks = column_masks(columns);
     let due = due_rules(calls, columns);
-    lay_calls(rows, lengths, columns, &masks, &due, opened, calls, [255u8; 32], 0, 0, ceiling)
+    lay_calls(
+        rows,
+        lengths,
+        columns,
+        &masks,
+        &due,
+        opened,
+        calls,
+        [255u8; 32],
+        0,
+        0,
+        ceiling,
+    )
 }
 
 // The same off the value and the bytes.
@@ -50,17 +60,15 @@ pub fn lay_plan(
     rows: &[u8],
     slots: &[u8],
     ceiling: u32,
-) -> Laid
-{
+) -> Laid {
     let columns = rule_columns(arity, scope, slots);
-    let calls = call_bytes(counts, slots);
+    let calls = call_slots(counts, slots);
     let opened = open_masks(slots);
     lay_all(rows, lengths, &columns, &opened, &calls, ceiling)
 }
 
 // The answer that a search ends with.
-pub fn plan_answer(laid: Laid, ceiling: u32) -> PlanAnswer
-{
+pub fn plan_answer(laid: Laid, ceiling: u32) -> PlanAnswer {
     let ending = laid.ending;
     let trials = laid.trials;
     let plan = laid.plan;

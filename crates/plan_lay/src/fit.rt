@@ -1,5 +1,5 @@
 // A plan laid in part against the rows of the rules that are due.
-use crate::tables::columns_at;
+use crate::lookup::columns_at;
 use plan_fit::columns::plan_word;
 use plan_fit::rows::has_row;
 ghost use mathlib.Core.Path.{_≡_};

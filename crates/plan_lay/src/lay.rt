@@ -48,8 +48,7 @@ pub fn lay_calls(
     trials: u32,
     call: usize,
     ceiling: u32,
-) -> Laid
-{
+) -> Laid {
     if 32 <= call {
         return Laid {
             plan,
@@ -58,12 +57,37 @@ pub fn lay_calls(
         };
     }
     if calls[call] == 0 {
-        return lay_calls(rows, lengths, columns, masks, due, opened, calls, plan, trials, call + 1, ceiling);
+        return lay_calls(
+            rows,
+            lengths,
+            columns,
+            masks,
+            due,
+            opened,
+            calls,
+            plan,
+            trials,
+            call + 1,
+            ceiling,
+        );
     }
-    lay_slots(rows, lengths, columns, masks, due, opened, calls, plan, trials, call, 0, ceiling)
+    lay_slots(
+        rows,
+        lengths,
+        columns,
+        masks,
+        due,
+        opened,
+        calls,
+        plan,
+        trials,
+        call,
+        0,
+        ceiling,
+    )
 }
 
-// Lays the slots of a call from `slot` on, and behind each that stays the calls after it.
+// Lays the open slots of a call from `slot` on, until one comes to a full plan or to the ceiling.
 fn lay_slots(
     rows: &[u8],
     lengths: &[u8; 64],
@@ -77,8 +101,7 @@ fn lay_slots(
     call: usize,
     slot: usize,
     ceiling: u32,
-) -> Laid
-{
+) -> Laid {
     let s = next_open(opened[call], slot);
     if 32 <= s {
         return Laid {
@@ -87,6 +110,57 @@ fn lay_slots(
             trials,
         };
     }
+    let tried = lay_slot(
+        rows,
+        lengths,
+        columns,
+        masks,
+        due,
+        opened,
+        calls,
+        plan,
+        trials,
+        call,
+        s,
+        ceiling,
+    );
+    let ending = tried.ending;
+    let spent = tried.trials;
+    match ending {
+        Ending::Found => tried,
+        Ending::Stopped => tried,
+        Ending::Nothing => lay_slots(
+            rows,
+            lengths,
+            columns,
+            masks,
+            due,
+            opened,
+            calls,
+            plan,
+            spent,
+            call,
+            s + 1,
+            ceiling,
+        ),
+    }
+}
+
+// Lays an open slot, which is a trial, and where it stays the calls behind it.
+fn lay_slot(
+    rows: &[u8],
+    lengths: &[u8; 64],
+    columns: &[u8; 256],
+    masks: &[u32; 64],
+    due: &[u64; 32],
+    opened: &[u32; 32],
+    calls: &[u8; 32],
+    plan: [u8; 32],
+    trials: u32,
+    call: usize,
+    slot: usize,
+    ceiling: u32,
+) -> Laid {
     if ceiling <= trials {
         return Laid {
             plan,
@@ -95,16 +169,25 @@ fn lay_slots(
         };
     }
     let mut laid = plan;
-    laid[call] = s as u8;
+    laid[call] = slot as u8;
     if !rules_fit(rows, lengths, columns, masks, &laid, due[call]) {
-        return lay_slots(rows, lengths, columns, masks, due, opened, calls, plan, trials + 1, call, s + 1, ceiling);
+        return Laid {
+            plan,
+            ending: Ending::Nothing,
+            trials: trials + 1,
+        };
     }
-    let behind = lay_calls(rows, lengths, columns, masks, due, opened, calls, laid, trials + 1, call + 1, ceiling);
-    let ending = behind.ending;
-    let spent = behind.trials;
-    match ending {
-        Ending::Found => behind,
-        Ending::Stopped => behind,
-        Ending::Nothing => lay_slots(rows, lengths, columns, masks, due, opened, calls, plan, spent, call, s + 1, ceiling),
-    }
+    lay_calls(
+        rows,
+        lengths,
+        columns,
+        masks,
+        due,
+        opened,
+        calls,
+        laid,
+        trials + 1,
+        call + 1,
+        ceiling,
+    )
 }

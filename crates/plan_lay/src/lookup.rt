@@ -1,7 +1,7 @@
 // What the search looks up at each slot, made once off the value and the bytes: which calls are to be laid and their open slots, the calls of every rule's columns, and
 // these columns as masks.
-use layout::places::is_cancelled;
 use masks::slots::slots_with;
+use plan_fit::calls::slots_for;
 use plan_fit::columns::column_call;
 use plan_fit::columns::column_mask;
 ghost use mathlib.Core.Path.{_≡_};
@@ -10,24 +10,14 @@ ghost use lib.ListN.{length};
 ghost use Rattle.layout.specs.Sizes.{slotsLength};
 ghost use Rattle.plan_lay.specs.Tables.{callByte, CallBytes, OpenMasks, RuleColumns, columnsAt, ColumnMasks};
 
-// 1 for a call that is to be laid: it has slots and is not cancelled.
-fn call_byte(count: u8, slots: &[u8], call: u8) -> u8
-    ensures { λ r. ⌜ r ≡ callByte count (now (slots .entry)) call ⌝ }
-{
-    if count == 0 {
-        return 0;
-    }
-    if is_cancelled(slots, call) { 0 } else { 1 }
-}
-
-// The same for every call.
-pub fn call_bytes(counts: &[u8; 32], slots: &[u8]) -> [u8; 32]
-    ensures { λ r. ⌜ CallBytes (now (counts .entry)) (now (slots .entry)) r ⌝ }
+// How many slots each call has in a plan: 0 for one that is not to be laid.
+pub fn call_slots(counts: &[u8; 32], slots: &[u8]) -> [u8; 32]
+    ensures { λ r. ⌜ CallSlots (callParts (counts .entry) (slots .entry)) r ⌝ }
 {
     let mut calls = [0u8; 32];
     let mut c = 0;
     while c < 32 {
-        calls[c] = call_byte(counts[c], slots, c as u8);
+        calls[c] = slots_for(counts, slots, c);
         c += 1;
     }
     calls
