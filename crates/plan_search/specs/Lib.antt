@@ -1,3 +1,4 @@
 pub mod Search
 pub mod First
+pub mod Moves
 pub mod Laws

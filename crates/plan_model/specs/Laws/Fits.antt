@@ -37,11 +37,11 @@ module _ (B : Board) (plan : List ℕ) (p : ℕ) where
       (⊎-elim (λ off. inl off) (λ n. inr (→eqb (slotAt r w k) (slotIn plan (callAt r k)) (fit k (below-active B r k h (not-live B (callAt r k) n)))))
       (T? (cancelledOn? B (callAt r k)))))
 
-  fitted→ : T (fitted? (rulesOf B) plan p) → (w : ℕ) × (w < length (r .rows)) × RowFits B (slotIn plan) r w
+  pub fitted→ : T (fitted? (rulesOf B) plan p) → (w : ℕ) × (w < length (r .rows)) × RowFits B (slotIn plan) r w
   unfolding fitted?
   fitted→ t = let f = some→ (length (r .rows)) (fits? (rulesOf B) plan p) t in (f .0, f .1, fits→ (f .0) (f .2))
 
-  →fitted : (w : ℕ) → w < length (r .rows) → RowFits B (slotIn plan) r w → T (fitted? (rulesOf B) plan p)
+  pub →fitted : (w : ℕ) → w < length (r .rows) → RowFits B (slotIn plan) r w → T (fitted? (rulesOf B) plan p)
   unfolding fitted?
   →fitted w h fit = →some (length (r .rows)) (fits? (rulesOf B) plan p) w h (→fits w fit)
 
@@ -54,7 +54,7 @@ module _ (B : Board) (plan : List ℕ) (p : ℕ) where
   →binds j a = →some (length (r .scope)) (λ k. not (cancelledOn? B (callAt r k))) j (active-below B r j a) (active-live B r j a)
 
   -- a number with a column is in force
-  column-force : (k : ℕ) → k < length (r .scope) → InForce B p r
+  pub column-force : (k : ℕ) → k < length (r .scope) → InForce B p r
   column-force k h = go (getD (B .rules) p none) h refl
     where
       go : (o : Option Rule) → k < length (ruleOr o .scope) → getD (B .rules) p none ≡ o → getD (B .rules) p none ≡ some (ruleOr (getD (B .rules) p none))

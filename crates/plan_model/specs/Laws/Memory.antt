@@ -27,7 +27,7 @@ pub record SameRead (R Q : RulesRead) (p : ℕ) : Type 0 where
 
 -- is broken alike
 module _ (R Q : RulesRead) (plan : List ℕ) (p : ℕ) (same : SameRead R Q p) where
-  off-same : (k : ℕ) → k < Q .columns p → R .off (R .call p k) ≡ Q .off (Q .call p k)
+  pub off-same : (k : ℕ) → k < Q .columns p → R .off (R .call p k) ≡ Q .off (Q .call p k)
   off-same k h = same .offs (R .call p k) ∙ ap (Q .off) (same .calls k h)
 
   fits-same : (w : ℕ) → w < Q .rows p → fits? R plan p w ≡ fits? Q plan p w
@@ -38,7 +38,7 @@ module _ (R Q : RulesRead) (plan : List ℕ) (p : ℕ) (same : SameRead R Q p) w
       ap (λ (n : ℕ). every? n f) (same .columns)
       ∙ every-same (Q .columns p) f g (λ k h. rw (off-same k h, same .slots w k hw h, same .calls k h) refl)
 
-  fitted-same : fitted? R plan p ≡ fitted? Q plan p
+  pub fitted-same : fitted? R plan p ≡ fitted? Q plan p
   unfolding fitted?
   fitted-same =
       ap (λ (n : ℕ). some? n (fits? R plan p)) (same .rows) ∙ some-same (Q .rows p) (fits? R plan p) (fits? Q plan p) fits-same
@@ -63,7 +63,7 @@ module _ (L : Ledger) (shape : LedgerShape L) (s : State) (rep : Represents L s)
       go none e l = absurd (omega arith)
       go (some r) e l = let there = shape .board .rules p r e .scope k l in omega (arith, shape .board .calls)
 
-  same-read : (p : ℕ) → p < 64 → SameRead (rulesIn s) (rulesOf (L .board)) p
+  pub same-read : (p : ℕ) → p < 64 → SameRead (rulesIn s) (rulesOf (L .board)) p
   same-read p hp =
       record {
         columns = columns-held L shape s rep p;
