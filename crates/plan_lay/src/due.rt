@@ -3,7 +3,7 @@ ghost use mathlib.Core.Path.{_≡_};
 ghost use Prim.Native.Nat.{_<_, max};
 ghost use lib.ListN.{length};
 ghost use Rattle.masks.specs.Rules.{Inserted};
-ghost use Rattle.plan_lay.specs.Tables.{columnStage, ruleStage, DueAt, DueRules};
+ghost use Rattle.plan_lay.specs.Due.{columnStage, ruleStage, DueAt, DueRules};
 
 // How many calls are passed when the column's call is laid: one more than its number; 0 for a column that does not count, and 64 for a call that is not to be laid.
 fn column_stage(calls: &[u8; 32], call: u8) -> u8

@@ -18,9 +18,14 @@ ghost use lib.ListN.{length};
 ghost use Rattle.layout.specs.Sizes.{slotsLength, rowsLength};
 ghost use Rattle.model.specs.Refusals.{firstOf};
 ghost use Rattle.model.specs.Questions.{boardChecks};
+ghost use Rattle.plan_search.specs.First.{memoryTask, searchAll, cut, endedAnswer};
+ghost use Rattle.plan_lay.specs.Lay.{endedOf, LaidBy};
+ghost use Rattle.plan_lay.specs.Parts.{lentParts, planParts};
 
 // The number of the first check that holds, 1 or 6, or 0.
-pub fn board_refusal(counts: &[u8; 32], rows: &[u8], killers: &[u8], slots: &[u8]) -> u8 {
+pub fn board_refusal(counts: &[u8; 32], rows: &[u8], killers: &[u8], slots: &[u8]) -> u8
+    ensures { λ r. ⌜ r ≡ firstOf (boardChecks (lentParts (counts .entry) (rows .entry) (killers .entry) (slots .entry))) ⌝ }
+{
     let n = or_refuse(0, bad_lengths(rows, killers, slots), BUFFER_LENGTH);
     or_refuse(n, counts[0] == 0, NO_BOARD)
 }
@@ -33,7 +38,11 @@ fn lay_all(
     opened: &[u32; 32],
     calls: &[u8; 32],
     ceiling: u32,
-) -> Laid {
+) -> Laid
+    requires { ⌜ length (now rows) ≡ rowsLength ⌝ }
+    ensures { λ r. ⌜ LaidBy
+        (now (rows .entry)) (now (lengths .entry)) (now (columns .entry)) (now (opened .entry)) (now (calls .entry)) ceiling r ⌝ }
+{
     let masks = column_masks(columns);
     let due = due_rules(calls, columns);
     lay_calls(
@@ -60,7 +69,12 @@ pub fn lay_plan(
     rows: &[u8],
     slots: &[u8],
     ceiling: u32,
-) -> Laid {
+) -> Laid
+    requires { ⌜ length (now rows) ≡ rowsLength ⌝ }
+    requires { ⌜ length (now slots) ≡ slotsLength ⌝ }
+    ensures { λ r. ⌜ endedOf r
+        ≡ cut ceiling (searchAll (memoryTask (planParts (counts .entry) (arity .entry) (scope .entry) (lengths .entry) (rows .entry) (slots .entry)))) ⌝ }
+{
     let columns = rule_columns(arity, scope, slots);
     let calls = call_slots(counts, slots);
     let opened = open_masks(slots);
@@ -68,7 +82,9 @@ pub fn lay_plan(
 }
 
 // The answer that a search ends with.
-pub fn plan_answer(laid: Laid, ceiling: u32) -> PlanAnswer {
+pub fn plan_answer(laid: Laid, ceiling: u32) -> PlanAnswer
+    ensures { λ r. ⌜ r ≡ endedAnswer ceiling (endedOf laid) ⌝ }
+{
     let ending = laid.ending;
     let trials = laid.trials;
     let plan = laid.plan;

@@ -6,7 +6,7 @@ ghost use mathlib.Core.Path.{_≡_};
 ghost use Prim.Native.Nat.{_<_};
 ghost use lib.ListN.{length};
 ghost use Rattle.layout.specs.Sizes.{rowsLength};
-ghost use Rattle.plan_lay.specs.Tables.{fittedBy, staysBy};
+ghost use Rattle.plan_lay.specs.Lay.{fittedBy, staysBy};
 
 // Some row of rule p has the plan's slots in the columns that count.
 fn rule_fits(

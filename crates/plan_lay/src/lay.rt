@@ -4,6 +4,10 @@ ghost use mathlib.Core.Path.{_≡_};
 ghost use Prim.Native.Nat.{_+_, _<_, _≤_};
 ghost use lib.ListN.{length};
 ghost use Rattle.layout.specs.Sizes.{rowsLength};
+ghost use Rattle.plan_search.specs.Search.{after};
+ghost use Rattle.plan_search.specs.First.{cut};
+ghost use Rattle.plan_lay.specs.Lay.{NextOpen, callsFrom, triesFrom, behindSlot, endedOf};
+ghost use Rattle.plan_lay.specs.Parts.{lentTask};
 
 // How the calls behind a slot ended.
 pub enum Ending {
@@ -24,6 +28,7 @@ pub struct Laid {
 // The first slot of the mask from `slot` on; 32 where there is none.
 fn next_open(mask: u32, slot: usize) -> usize
     requires { ⌜ slot ≤ 32 ⌝ }
+    ensures { λ r. ⌜ NextOpen mask slot r ⌝ }
 {
     if 32 <= slot {
         return 32;
@@ -48,7 +53,14 @@ pub fn lay_calls(
     trials: u32,
     call: usize,
     ceiling: u32,
-) -> Laid {
+) -> Laid
+    requires { ⌜ length (now rows) ≡ rowsLength ⌝ }
+    requires { ⌜ trials ≤ ceiling ⌝ }
+    requires { ⌜ call ≤ 32 ⌝ }
+    ensures { λ r. ⌜ endedOf r
+        ≡ cut ceiling (after trials
+        (callsFrom (lentTask (rows .entry) (lengths .entry) (columns .entry) (masks .entry) (due .entry) (opened .entry) (calls .entry)) call plan)) ⌝ }
+{
     if 32 <= call {
         return Laid {
             plan,
@@ -101,7 +113,15 @@ fn lay_slots(
     call: usize,
     slot: usize,
     ceiling: u32,
-) -> Laid {
+) -> Laid
+    requires { ⌜ length (now rows) ≡ rowsLength ⌝ }
+    requires { ⌜ trials ≤ ceiling ⌝ }
+    requires { ⌜ call < 32 ⌝ }
+    requires { ⌜ slot ≤ 32 ⌝ }
+    ensures { λ r. ⌜ endedOf r
+        ≡ cut ceiling (after trials
+        (triesFrom (lentTask (rows .entry) (lengths .entry) (columns .entry) (masks .entry) (due .entry) (opened .entry) (calls .entry)) call slot plan)) ⌝ }
+{
     let s = next_open(opened[call], slot);
     if 32 <= s {
         return Laid {
@@ -160,7 +180,15 @@ fn lay_slot(
     call: usize,
     slot: usize,
     ceiling: u32,
-) -> Laid {
+) -> Laid
+    requires { ⌜ length (now rows) ≡ rowsLength ⌝ }
+    requires { ⌜ trials ≤ ceiling ⌝ }
+    requires { ⌜ call < 32 ⌝ }
+    requires { ⌜ slot < 32 ⌝ }
+    ensures { λ r. ⌜ endedOf r
+        ≡ cut ceiling (after (trials + 1)
+        (behindSlot (lentTask (rows .entry) (lengths .entry) (columns .entry) (masks .entry) (due .entry) (opened .entry) (calls .entry)) call slot plan)) ⌝ }
+{
     if ceiling <= trials {
         return Laid {
             plan,

@@ -8,7 +8,8 @@ ghost use mathlib.Core.Path.{_≡_};
 ghost use Prim.Native.Nat.{_<_};
 ghost use lib.ListN.{length};
 ghost use Rattle.layout.specs.Sizes.{slotsLength};
-ghost use Rattle.plan_lay.specs.Tables.{callByte, CallBytes, OpenMasks, RuleColumns, columnsAt, ColumnMasks};
+ghost use Rattle.plan_fit.specs.Parts.{callParts};
+ghost use Rattle.plan_lay.specs.Lookup.{CallSlots, OpenMasks, RuleColumns, columnsAt, ColumnMasks};
 
 // How many slots each call has in a plan: 0 for one that is not to be laid.
 pub fn call_slots(counts: &[u8; 32], slots: &[u8]) -> [u8; 32]
