@@ -1,37 +1,24 @@
 // The checks of the question, in the order of SCOPE 4.3: 1, 32, 6, 33. None relies on another to be safe; the bytes are looked at last, where nothing else is
 // refused.
-use layout::places::is_cancelled;
 use layout::value::bad_lengths;
 use model::refusal::BAD_PLAN_BYTE;
 use model::refusal::BUFFER_LENGTH;
 use model::refusal::NO_BOARD;
 use model::refusal::PLAN_LENGTH;
 use model::refusal::or_refuse;
+use plan_fit::calls::slots_for;
 ghost use mathlib.Core.Path.{_≡_};
-ghost use Prim.Native.Nat.{_<_};
 ghost use Rattle.model.specs.Refusals.{firstOf};
 ghost use Rattle.plan_model.specs.Plans.{slotIn, slotsOnIn};
 ghost use Rattle.plan_model.specs.Check.{wrongByte?, wrongPlan?, planChecks};
-ghost use Rattle.plan_check.specs.Parts.{callParts, checkParts};
+ghost use Rattle.plan_fit.specs.Parts.{callParts};
+ghost use Rattle.plan_check.specs.Parts.{checkParts};
 
 // The plan's byte for a call; 255 past its end.
 fn byte_for(plan: &[u8], c: usize) -> u8
     ensures { λ r. ⌜ r ≡ slotIn (now (plan .entry)) c ⌝ }
 {
     if c < plan.len() { plan[c] } else { 255 }
-}
-
-// How many slots call c has in a plan: none where it is cancelled or not on the board.
-fn slots_for(counts: &[u8; 32], slots: &[u8], c: usize) -> u8
-    requires { ⌜ c < 32 ⌝ }
-    ensures { λ r. ⌜ r ≡ slotsOnIn (callParts (counts .entry) (slots .entry)) c ⌝ }
-{
-    let held = counts[c];
-    if is_cancelled(slots, c as u8) {
-        0
-    } else {
-        held
-    }
 }
 
 // The byte is none of a call's slots, or is not 255 where the call has none.

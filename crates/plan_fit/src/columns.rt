@@ -9,7 +9,7 @@ ghost use Rattle.plan_model.specs.Plans.{planSize};
 ghost use Rattle.plan_fit.specs.Words.{columnCall, ColumnCalls, IsByte, maskByte, planByte, IsWord};
 
 // The call of column k of rule p; 255 where the column does not count, since it is none of the rule's or its call is cancelled.
-fn column_call(arity: &[u8; 64], scope: &[u8; 256], slots: &[u8], p: usize, k: usize) -> u8
+pub fn column_call(arity: &[u8; 64], scope: &[u8; 256], slots: &[u8], p: usize, k: usize) -> u8
     requires { ⌜ p < 64 ⌝ }
     requires { ⌜ k < 4 ⌝ }
     ensures { λ r. ⌜ r ≡ columnCall (now (arity .entry)) (now (scope .entry)) (now (slots .entry)) p k ⌝ }

@@ -154,10 +154,14 @@ module _ (s : State) (plan : List ℕ) (size : length plan ≡ planSize) (p : �
             (or→ (R .off (R .call p k)) (eqb (R .slot p w k) (slotIn plan (R .call p k)))
             (every→ (R .columns p) (λ k. R .off (R .call p k) || eqb (R .slot p w k) (slotIn plan (R .call p k))) t k (d .0))))
 
-    -- so a rule that binds is broken where no row matches
+    -- so some row matches exactly where the rule has a row that fits
+    pub matched-fitted : some? (R .rows p) (rowMatches? (s .rows) p mask wanted) ≡ fitted? R plan p
+    unfolding fitted?
+    matched-fitted =
+        some-same (R .rows p) (rowMatches? (s .rows) p mask wanted) (fits? R plan p)
+        (λ w h. same-test (rowMatches? (s .rows) p mask wanted w) (fits? R plan p w) (match→ w) (→match w))
+
+    -- and a rule that binds is broken where no row matches
     pub broken-unless : mask ≢ 0 → {found : Bool} → found ≡ some? (R .rows p) (rowMatches? (s .rows) p mask wanted) → not found ≡ breaks? R plan p
-    unfolding breaks? fitted?
-    broken-unless n e =
-        let same = some-same (R .rows p) (rowMatches? (s .rows) p mask wanted) (fits? R plan p)
-        (λ w h. same-test (rowMatches? (s .rows) p mask wanted w) (fits? R plan p w) (match→ w) (→match w)) in
-        rw (some-mask n) (ap not (e ∙ same))
+    unfolding breaks?
+    broken-unless n e = rw (some-mask n) (ap not (e ∙ matched-fitted))

@@ -1,8 +1,8 @@
 -- None where the call is cancelled, else its count.
 use mathlib.Core.Path.{refl}
 use borrow.Author.Needs.{needs}
-use Rattle.plan_check.proofs.refusal.slots_for.Statement.{statement}
-use Rattle.plan_check.proofs.refusal.slots_for.Tie as tie
+use Rattle.plan_fit.proofs.calls.slots_for.Statement.{statement}
+use Rattle.plan_fit.proofs.calls.slots_for.Tie as tie
 
 element-copy-out-held : tie.Need-element-copy-out-held
 element-copy-out-held c = search needs

@@ -1,0 +1,5 @@
+pub mod Lookup
+pub mod Due
+pub mod Lay
+pub mod Parts
+pub mod Laws

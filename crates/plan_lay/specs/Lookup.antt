@@ -1,0 +1,35 @@
+-- WHAT THE SEARCH LOOKS UP, off the value and the bytes, whatever they hold: tables by the number of a call, of a column or of a rule.
+use mathlib.Core.Path.{_≡_}
+use mathlib.Core.List.{List, [], _∷_}
+use Prim.Native.Nat.{ℕ, _+_, _*_, _/_, _%_, _<_}
+use lib.ListN.{length, getD}
+use Rattle.tables.specs.Masks.{IsMask}
+use Rattle.layout.specs.Places.{causeOf}
+use Rattle.layout.specs.Memory.{State}
+use Rattle.plan_model.specs.Plans.{slotsOnIn}
+use Rattle.plan_fit.specs.Words.{columnCall, maskByte, IsWord}
+
+-- A TABLE of so many entries, the first n of which have P
+pub record Entries (P : ℕ → ℕ → Type 0) (size n : ℕ) (l : List ℕ) : Type 0 where
+  pub long : length l ≡ size
+  pub each : (i : ℕ) → i < n → P i (getD l i 0)
+
+-- how many slots each call has in a plan: 0 for one that is not to be laid
+abbrev pub CallSlots : State → List ℕ → Type 0
+CallSlots s calls = Entries (λ c v. v ≡ slotsOnIn s c) 32 32 calls
+
+-- the open slots of each call
+abbrev pub OpenMasks : List ℕ → List ℕ → Type 0
+OpenMasks slots opened = Entries (λ c m. IsMask (λ s. causeOf slots c s ≡ 255) 32 m) 32 32 opened
+
+-- the call of each column of each rule, 255 where the column does not count: four entries to a rule
+abbrev pub RuleColumns : List ℕ → List ℕ → List ℕ → List ℕ → Type 0
+RuleColumns arity scope slots columns = Entries (λ i v. v ≡ columnCall arity scope slots (i / 4) (i % 4)) 256 256 columns
+
+-- those of rule p
+abbrev pub columnsAt : List ℕ → ℕ → List ℕ
+columnsAt columns p = getD columns (4 * p) 0 ∷ getD columns (4 * p + 1) 0 ∷ getD columns (4 * p + 2) 0 ∷ getD columns (4 * p + 3) 0 ∷ []
+
+-- and as a word that has all bits of each column that counts
+abbrev pub ColumnMasks : List ℕ → List ℕ → Type 0
+ColumnMasks columns masks = Entries (λ p m. IsWord (columnsAt columns p) maskByte m) 64 64 masks
