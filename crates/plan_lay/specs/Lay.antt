@@ -11,24 +11,11 @@ use Rattle.model.specs.Tests.{some?, every?}
 use Rattle.plan_fit.specs.Words.{planByte, rowMatches?}
 use Rattle.plan_search.specs.Search.{Result, nothing, Task, tries, search}
 use Rattle.plan_search.specs.First.{noPlan, Ended, full, none, stopped, cut}
-use Rattle.plan_lay.specs.Lookup.{ColumnMasks}
-use Rattle.plan_lay.specs.Due.{DueRules}
+use Rattle.plan_tables.specs.Lookup.{ColumnMasks}
+use Rattle.plan_tables.specs.Due.{DueRules}
 use Rattle.plan_lay.specs.declared.lay.Laid.{Laid}
 use Rattle.plan_lay.specs.declared.lay.Ending.{Ending}
 use Rattle.plan_lay.specs.declared.lay.Ending.the-variants as ending
-
--- the plan's slots for the columns of rule p that count, as a word
-unfoldable pub wantedBy : List ℕ → List ℕ → ℕ → ℕ
-wantedBy columns plan p =
-    planByte plan (getD columns (4 * p) 0) + 256 * planByte plan (getD columns (4 * p + 1) 0) + 65536 * planByte plan (getD columns (4 * p + 2) 0)
-    + 16777216 * planByte plan (getD columns (4 * p + 3) 0)
-
--- a row of rule p has them; and so has every rule of a mask
-unfoldable pub fittedBy : List ℕ → List ℕ → List ℕ → List ℕ → List ℕ → ℕ → Bool
-fittedBy rows lengths columns masks plan p = some? (rowsOf lengths p) (rowMatches? rows p (getD masks p 0) (wantedBy columns plan p))
-
-unfoldable pub staysBy : List ℕ → List ℕ → List ℕ → List ℕ → ℕ → List ℕ → Bool
-staysBy rows lengths columns masks rules plan = every? 64 λ p. not (eqb (bitOf rules p) 1) || fittedBy rows lengths columns masks plan p
 
 -- THE TASK: the calls that have slots, the slots in each call's mask, and of the rules those that the call makes due
 abbrev pub tableTask : List ℕ → List ℕ → List ℕ → List ℕ → List ℕ → List ℕ → List ℕ → Task

@@ -1,19 +1,21 @@
 // The checks of the question, and the search from the tables to the answer.
-use crate::due::due_rules;
 use crate::lay::Ending;
-use crate::lay::Laid;
 use crate::lay::lay_calls;
-use crate::lookup::call_slots;
-use crate::lookup::column_masks;
-use crate::lookup::open_masks;
-use crate::lookup::rule_columns;
+use layout::value::ROWS;
 use layout::value::bad_lengths;
 use model::refusal::BUFFER_LENGTH;
 use model::refusal::NO_BOARD;
 use model::refusal::or_refuse;
 use plan_search::answer::FirstPlan;
 use plan_search::answer::PlanAnswer;
+use plan_tables::due::due_rules;
+use plan_tables::lookup::call_slots;
+use plan_tables::lookup::column_masks;
+use plan_tables::lookup::copy_rows;
+use plan_tables::lookup::open_masks;
+use plan_tables::lookup::rule_columns;
 ghost use mathlib.Core.Path.{_≡_};
+ghost use Prim.Native.Nat.{_+_, _-_, _≤_, min};
 ghost use lib.ListN.{length};
 ghost use Rattle.layout.specs.Sizes.{slotsLength, rowsLength};
 ghost use Rattle.model.specs.Refusals.{firstOf};
@@ -21,6 +23,13 @@ ghost use Rattle.model.specs.Questions.{boardChecks};
 ghost use Rattle.plan_search.specs.First.{memoryTask, searchAll, cut, endedAnswer};
 ghost use Rattle.plan_lay.specs.Lay.{endedOf, LaidBy};
 ghost use Rattle.plan_lay.specs.Parts.{lentParts, planParts};
+
+// What a search ended with: the plan, where one is found, and the trials.
+pub struct Laid {
+    pub plan: [u8; 32],
+    pub ending: Ending,
+    pub trials: u32,
+}
 
 // The number of the first check that holds, 1 or 6, or 0.
 pub fn board_refusal(counts: &[u8; 32], rows: &[u8], killers: &[u8], slots: &[u8]) -> u8
@@ -30,22 +39,34 @@ pub fn board_refusal(counts: &[u8; 32], rows: &[u8], killers: &[u8], slots: &[u8
     or_refuse(n, counts[0] == 0, NO_BOARD)
 }
 
+// The trials that were made: the ceiling and one, less what is left of these; the ceiling where nothing is.
+fn trials_made(ceiling: u32, left: u64) -> u32
+    requires { ⌜ left ≤ ceiling + 1 ⌝ }
+    ensures { λ r. ⌜ r ≡ min (ceiling + 1 - left) ceiling ⌝ }
+{
+    if left == 0 {
+        return ceiling;
+    }
+    ((ceiling as u64) + 1 - left) as u32
+}
+
 // The search from the first call on, with no call laid.
 fn lay_all(
-    rows: &[u8],
+    rows: &[u8; ROWS],
     lengths: &[u8; 64],
     columns: &[u8; 256],
     opened: &[u32; 32],
     calls: &[u8; 32],
     ceiling: u32,
 ) -> Laid
-    requires { ⌜ length (now rows) ≡ rowsLength ⌝ }
     ensures { λ r. ⌜ LaidBy
         (now (rows .entry)) (now (lengths .entry)) (now (columns .entry)) (now (opened .entry)) (now (calls .entry)) ceiling r ⌝ }
 {
     let masks = column_masks(columns);
     let due = due_rules(calls, columns);
-    lay_calls(
+    let mut plan = [255u8; 32];
+    let mut left = (ceiling as u64) + 1;
+    let ending = lay_calls(
         rows,
         lengths,
         columns,
@@ -53,11 +74,15 @@ fn lay_all(
         &due,
         opened,
         calls,
-        [255u8; 32],
+        &mut plan,
+        &mut left,
         0,
-        0,
-        ceiling,
-    )
+    );
+    Laid {
+        plan,
+        ending,
+        trials: trials_made(ceiling, left),
+    }
 }
 
 // The same off the value and the bytes.
@@ -78,7 +103,8 @@ pub fn lay_plan(
     let columns = rule_columns(arity, scope, slots);
     let calls = call_slots(counts, slots);
     let opened = open_masks(slots);
-    lay_all(rows, lengths, &columns, &opened, &calls, ceiling)
+    let held = copy_rows(rows);
+    lay_all(&held, lengths, &columns, &opened, &calls, ceiling)
 }
 
 // The answer that a search ends with.

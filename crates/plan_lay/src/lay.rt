@@ -1,28 +1,22 @@
-// The search by the tables: a slot for each call in rising order, and back to the call before where none is left.
-use crate::fit::rules_fit;
+// The search by the tables, by recursion that falls on the calls and the slots left: a slot for each call in rising order, and back to the call before where none is left.
+// What is left of the ceiling is counted down: `left` is one more than the trials that may still be made, and 0 where one more was needed.
+use layout::value::ROWS;
+use plan_tables::fit::rules_fit;
 ghost use mathlib.Core.Path.{_≡_};
-ghost use Prim.Native.Nat.{_+_, _<_, _≤_};
+ghost use Prim.Native.Nat.{_<_, _≤_};
 ghost use lib.ListN.{length};
-ghost use Rattle.layout.specs.Sizes.{rowsLength};
 ghost use Rattle.plan_search.specs.Search.{after};
-ghost use Rattle.plan_search.specs.First.{cut};
-ghost use Rattle.plan_lay.specs.Lay.{NextOpen, callsFrom, triesFrom, behindSlot, endedOf};
+ghost use Rattle.plan_lay.specs.Lay.{NextOpen, callsFrom, triesFrom, behindSlot, Blank, CallsLaid, SlotsLaid, SlotLaid};
 ghost use Rattle.plan_lay.specs.Parts.{lentTask};
 
-// How the calls behind a slot ended.
+// How the calls from one on ended, or those behind a slot.
 pub enum Ending {
+    // each has a slot
     Found,
     // no slot is left
     Nothing,
     // a slot was left, and no trial
     Stopped,
-}
-
-// The same with the plan, where one is found, and the trials of the search so far.
-pub struct Laid {
-    pub plan: [u8; 32],
-    pub ending: Ending,
-    pub trials: u32,
 }
 
 // The first slot of the mask from `slot` on; 32 where there is none.
@@ -40,33 +34,28 @@ fn next_open(mask: u32, slot: usize) -> usize
     slot + (u32::trailing_zeros(above) as usize)
 }
 
-// Lays the calls from `call` on.
+// Lays the calls from `call` on. Where no slot is left for one, the plan is as it was.
 pub fn lay_calls(
-    rows: &[u8],
+    rows: &[u8; ROWS],
     lengths: &[u8; 64],
     columns: &[u8; 256],
     masks: &[u32; 64],
     due: &[u64; 32],
     opened: &[u32; 32],
     calls: &[u8; 32],
-    plan: [u8; 32],
-    trials: u32,
+    plan: &mut [u8; 32],
+    left: &mut u64,
     call: usize,
-    ceiling: u32,
-) -> Laid
-    requires { ⌜ length (now rows) ≡ rowsLength ⌝ }
-    requires { ⌜ trials ≤ ceiling ⌝ }
+) -> Ending
+    requires { ⌜ Blank call (now plan) ⌝ }
+    requires { ⌜ 0 < now left ⌝ }
     requires { ⌜ call ≤ 32 ⌝ }
-    ensures { λ r. ⌜ endedOf r
-        ≡ cut ceiling (after trials
-        (callsFrom (lentTask (rows .entry) (lengths .entry) (columns .entry) (masks .entry) (due .entry) (opened .entry) (calls .entry)) call plan)) ⌝ }
+    ensures { λ r. ⌜ CallsLaid
+        (callsFrom (lentTask (rows .entry) (lengths .entry) (columns .entry) (masks .entry) (due .entry) (opened .entry) (calls .entry)) call (now (plan .entry)))
+        (now (left .entry)) (now (plan .entry)) (now (left .exit)) (now (plan .exit)) r ⌝ }
 {
     if 32 <= call {
-        return Laid {
-            plan,
-            ending: Ending::Found,
-            trials,
-        };
+        return Ending::Found;
     }
     if calls[call] == 0 {
         return lay_calls(
@@ -78,12 +67,11 @@ pub fn lay_calls(
             opened,
             calls,
             plan,
-            trials,
+            left,
             call + 1,
-            ceiling,
         );
     }
-    lay_slots(
+    let s = lay_slots(
         rows,
         lengths,
         columns,
@@ -92,45 +80,47 @@ pub fn lay_calls(
         opened,
         calls,
         plan,
-        trials,
+        left,
         call,
         0,
-        ceiling,
-    )
+    );
+    if 32 <= s {
+        plan[call] = 255;
+        return Ending::Nothing;
+    }
+    if *left == 0 {
+        return Ending::Stopped;
+    }
+    Ending::Found
 }
 
-// Lays the open slots of a call from `slot` on, until one comes to a full plan or to the ceiling.
+// Lays the open slots of a call from `slot` on, until one comes to a full plan or to the ceiling, and returns it; 32 where none does.
 fn lay_slots(
-    rows: &[u8],
+    rows: &[u8; ROWS],
     lengths: &[u8; 64],
     columns: &[u8; 256],
     masks: &[u32; 64],
     due: &[u64; 32],
     opened: &[u32; 32],
     calls: &[u8; 32],
-    plan: [u8; 32],
-    trials: u32,
+    plan: &mut [u8; 32],
+    left: &mut u64,
     call: usize,
     slot: usize,
-    ceiling: u32,
-) -> Laid
-    requires { ⌜ length (now rows) ≡ rowsLength ⌝ }
-    requires { ⌜ trials ≤ ceiling ⌝ }
+) -> usize
+    requires { ⌜ Blank (suc call) (now plan) ⌝ }
+    requires { ⌜ 0 < now left ⌝ }
     requires { ⌜ call < 32 ⌝ }
     requires { ⌜ slot ≤ 32 ⌝ }
-    ensures { λ r. ⌜ endedOf r
-        ≡ cut ceiling (after trials
-        (triesFrom (lentTask (rows .entry) (lengths .entry) (columns .entry) (masks .entry) (due .entry) (opened .entry) (calls .entry)) call slot plan)) ⌝ }
+    ensures { λ r. ⌜ SlotsLaid call
+        (triesFrom (lentTask (rows .entry) (lengths .entry) (columns .entry) (masks .entry) (due .entry) (opened .entry) (calls .entry)) call slot (now (plan .entry)))
+        (now (left .entry)) (now (plan .entry)) (now (left .exit)) (now (plan .exit)) r ⌝ }
 {
     let s = next_open(opened[call], slot);
     if 32 <= s {
-        return Laid {
-            plan,
-            ending: Ending::Nothing,
-            trials,
-        };
+        return 32;
     }
-    let tried = lay_slot(
+    let ending = lay_slot(
         rows,
         lengths,
         columns,
@@ -139,16 +129,13 @@ fn lay_slots(
         opened,
         calls,
         plan,
-        trials,
+        left,
         call,
         s,
-        ceiling,
     );
-    let ending = tried.ending;
-    let spent = tried.trials;
     match ending {
-        Ending::Found => tried,
-        Ending::Stopped => tried,
+        Ending::Found => s,
+        Ending::Stopped => s,
         Ending::Nothing => lay_slots(
             rows,
             lengths,
@@ -158,52 +145,42 @@ fn lay_slots(
             opened,
             calls,
             plan,
-            spent,
+            left,
             call,
             s + 1,
-            ceiling,
         ),
     }
 }
 
 // Lays an open slot, which is a trial, and where it stays the calls behind it.
 fn lay_slot(
-    rows: &[u8],
+    rows: &[u8; ROWS],
     lengths: &[u8; 64],
     columns: &[u8; 256],
     masks: &[u32; 64],
     due: &[u64; 32],
     opened: &[u32; 32],
     calls: &[u8; 32],
-    plan: [u8; 32],
-    trials: u32,
+    plan: &mut [u8; 32],
+    left: &mut u64,
     call: usize,
     slot: usize,
-    ceiling: u32,
-) -> Laid
-    requires { ⌜ length (now rows) ≡ rowsLength ⌝ }
-    requires { ⌜ trials ≤ ceiling ⌝ }
+) -> Ending
+    requires { ⌜ Blank (suc call) (now plan) ⌝ }
+    requires { ⌜ 0 < now left ⌝ }
     requires { ⌜ call < 32 ⌝ }
     requires { ⌜ slot < 32 ⌝ }
-    ensures { λ r. ⌜ endedOf r
-        ≡ cut ceiling (after (trials + 1)
-        (behindSlot (lentTask (rows .entry) (lengths .entry) (columns .entry) (masks .entry) (due .entry) (opened .entry) (calls .entry)) call slot plan)) ⌝ }
+    ensures { λ r. ⌜ SlotLaid call slot
+        (after 1 (behindSlot (lentTask (rows .entry) (lengths .entry) (columns .entry) (masks .entry) (due .entry) (opened .entry) (calls .entry)) call slot (now (plan .entry))))
+        (now (left .entry)) (now (plan .entry)) (now (left .exit)) (now (plan .exit)) r ⌝ }
 {
-    if ceiling <= trials {
-        return Laid {
-            plan,
-            ending: Ending::Stopped,
-            trials,
-        };
+    *left = *left - 1;
+    if *left == 0 {
+        return Ending::Stopped;
     }
-    let mut laid = plan;
-    laid[call] = slot as u8;
-    if !rules_fit(rows, lengths, columns, masks, &laid, due[call]) {
-        return Laid {
-            plan,
-            ending: Ending::Nothing,
-            trials: trials + 1,
-        };
+    plan[call] = slot as u8;
+    if !rules_fit(rows, lengths, columns, masks, plan, due[call]) {
+        return Ending::Nothing;
     }
     lay_calls(
         rows,
@@ -213,9 +190,8 @@ fn lay_slot(
         due,
         opened,
         calls,
-        laid,
-        trials + 1,
+        plan,
+        left,
         call + 1,
-        ceiling,
     )
 }

@@ -29,11 +29,12 @@ use Rattle.plan_search.specs.First.{noPlan, memoryTask, searchAll}
 use Rattle.plan_search.specs.Laws.Search.{search-same}
 use Rattle.plan_search.specs.Laws.Stays.{not-laid, slot-laid}
 use Rattle.plan_search.specs.Laws.Full.{no-slot}
-use Rattle.plan_lay.specs.Lookup.{CallSlots, OpenMasks, RuleColumns, columnsAt, ColumnMasks}
-use Rattle.plan_lay.specs.Due.{ruleStage, DueRules}
-use Rattle.plan_lay.specs.Lay.{wantedBy, fittedBy, staysBy, tableTask, callsFrom}
-use Rattle.plan_lay.specs.Laws.Lookup.{columns-of}
-use Rattle.plan_lay.specs.Laws.Last.{LastCall, lays-agree, stage→last, last→stage}
+use Rattle.plan_tables.specs.Lookup.{CallSlots, OpenMasks, RuleColumns, columnsAt, ColumnMasks}
+use Rattle.plan_tables.specs.Due.{ruleStage, DueRules}
+use Rattle.plan_lay.specs.Lay.{tableTask, callsFrom}
+use Rattle.plan_tables.specs.Fit.{wantedBy, fittedBy, staysBy}
+use Rattle.plan_tables.specs.Laws.Lookup.{columns-of}
+use Rattle.plan_tables.specs.Laws.Last.{LastCall, lays-agree, stage→last, last→stage}
 
 -- A RULE THAT IS DUE, of the rules as they are read: some call of it is laid, and each is laid or cancelled
 pub record DueRead (R : RulesRead) (plan : List ℕ) (p : ℕ) : Type 0 where

@@ -19,8 +19,8 @@ use Rattle.plan_search.specs.Laws.Search.{after-none}
 use Rattle.plan_search.specs.Laws.First.{first-promise}
 use Rattle.plan_lay.specs.declared.lay.Laid.{Laid}
 use Rattle.plan_lay.specs.declared.lay.Ending.the-variants as ending
-use Rattle.plan_lay.specs.Lookup.{CallSlots, OpenMasks, RuleColumns, ColumnMasks}
-use Rattle.plan_lay.specs.Due.{DueRules}
+use Rattle.plan_tables.specs.Lookup.{CallSlots, OpenMasks, RuleColumns, ColumnMasks}
+use Rattle.plan_tables.specs.Due.{DueRules}
 use Rattle.plan_lay.specs.Lay.{tableTask, callsFrom, endedOf, LaidBy}
 use Rattle.plan_lay.specs.Laws.Agree.{search-agrees}
 

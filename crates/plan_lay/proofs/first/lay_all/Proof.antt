@@ -5,9 +5,9 @@ use Rattle.plan_lay.proofs.first.lay_all.Statement.{statement}
 use Rattle.plan_lay.proofs.first.lay_all.Tie as tie
 use Rattle.plan_lay.proofs.first.lay_all.Reads as reads
 use Rattle.plan_lay.proofs.first.lay_all.Lts as lts
-use Rattle.plan_lay.proofs.due.due_rules.Reads as due-rules-reads
+use Rattle.plan_tables.proofs.due.due_rules.Reads as due-rules-reads
 use Rattle.plan_lay.proofs.lay.lay_calls.Reads as lay-calls-reads
-use Rattle.plan_lay.proofs.lookup.column_masks.Reads as column-masks-reads
+use Rattle.plan_tables.proofs.lookup.column_masks.Reads as column-masks-reads
 
 column-masks-requires : tie.Need-column-masks-requires
 column-masks-requires c κs = search needs

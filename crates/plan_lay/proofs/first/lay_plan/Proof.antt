@@ -9,9 +9,9 @@ use Rattle.plan_lay.proofs.first.lay_plan.Tie as tie
 use Rattle.plan_lay.proofs.first.lay_plan.Reads as reads
 use Rattle.plan_lay.proofs.first.lay_plan.Lts as lts
 use Rattle.plan_lay.proofs.first.lay_all.Reads as lay-all-reads
-use Rattle.plan_lay.proofs.lookup.call_slots.Reads as call-slots-reads
-use Rattle.plan_lay.proofs.lookup.open_masks.Reads as open-masks-reads
-use Rattle.plan_lay.proofs.lookup.rule_columns.Reads as rule-columns-reads
+use Rattle.plan_tables.proofs.lookup.call_slots.Reads as call-slots-reads
+use Rattle.plan_tables.proofs.lookup.open_masks.Reads as open-masks-reads
+use Rattle.plan_tables.proofs.lookup.rule_columns.Reads as rule-columns-reads
 
 rule-columns-requires : tie.Need-rule-columns-requires
 rule-columns-requires c κs = search needs

@@ -18,7 +18,7 @@ use Rattle.plan_lay.proofs.lay.+lay_calls+lay_slot+lay_slots.Lts-lay_sl
 use Rattle.plan_lay.proofs.lay.lay_slots.Reads as lay-slots
 use Rattle.plan_lay.proofs.lay.lay_slots.Kinds as lay-slots-kinds
 use Rattle.plan_lay.proofs.lay.+lay_calls+lay_slot+lay_slots.Lts-lay_slots as lay-slots-lts
-use Rattle.plan_lay.proofs.fit.rules_fit.Reads as rules-fit-reads
+use Rattle.plan_tables.proofs.fit.rules_fit.Reads as rules-fit-reads
 use Rattle.plan_lay.proofs.lay.next_open.Reads as next-open-reads
 use Rattle.plan_lay.proofs.lay.+lay_calls+lay_slot+lay_slots.{statement}
 use Rattle.plan_lay.proofs.lay.+lay_calls+lay_slot+lay_slots.Tie.{close}
