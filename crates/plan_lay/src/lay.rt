@@ -2,11 +2,12 @@
 // What is left of the ceiling is counted down: `left` is one more than the trials that may still be made, and 0 where one more was needed.
 use layout::value::ROWS;
 use plan_tables::fit::rules_fit;
-ghost use mathlib.Core.Path.{_≡_};
-ghost use Prim.Native.Nat.{_<_, _≤_};
-ghost use lib.ListN.{length};
+ghost use Prim.Native.Nat.{_+_, _<_, _≤_};
+ghost use lib.ListN.{set};
+ghost use Rattle.model.specs.Board.{noSlotGiven};
 ghost use Rattle.plan_search.specs.Search.{after};
-ghost use Rattle.plan_lay.specs.Lay.{NextOpen, callsFrom, triesFrom, behindSlot, Blank, CallsLaid, SlotsLaid, SlotLaid};
+ghost use Rattle.plan_search.specs.First.{Clear};
+ghost use Rattle.plan_lay.specs.Lay.{NextOpen, callsFrom, triesFrom, behindSlot, endingAt, StepEnded};
 ghost use Rattle.plan_lay.specs.Parts.{lentTask};
 
 // How the calls from one on ended, or those behind a slot.
@@ -34,7 +35,7 @@ fn next_open(mask: u32, slot: usize) -> usize
     slot + (u32::trailing_zeros(above) as usize)
 }
 
-// Lays the calls from `call` on. Where no slot is left for one, the plan is as it was.
+// Lays the calls from `call` on. Where no slot of it is left, the plan is as it was.
 pub fn lay_calls(
     rows: &[u8; ROWS],
     lengths: &[u8; 64],
@@ -47,12 +48,12 @@ pub fn lay_calls(
     left: &mut u64,
     call: usize,
 ) -> Ending
-    requires { ⌜ Blank call (now plan) ⌝ }
+    requires { ⌜ Clear call (now plan) ⌝ }
     requires { ⌜ 0 < now left ⌝ }
     requires { ⌜ call ≤ 32 ⌝ }
-    ensures { λ r. ⌜ CallsLaid
+    ensures { λ r. ⌜ StepEnded
         (callsFrom (lentTask (rows .entry) (lengths .entry) (columns .entry) (masks .entry) (due .entry) (opened .entry) (calls .entry)) call (now (plan .entry)))
-        (now (left .entry)) (now (plan .entry)) (now (left .exit)) (now (plan .exit)) r ⌝ }
+        (now (left .entry)) (now (left .exit)) (now (plan .entry)) (now (plan .exit)) r ⌝ }
 {
     if 32 <= call {
         return Ending::Found;
@@ -85,7 +86,6 @@ pub fn lay_calls(
         0,
     );
     if 32 <= s {
-        plan[call] = 255;
         return Ending::Nothing;
     }
     if *left == 0 {
@@ -94,7 +94,8 @@ pub fn lay_calls(
     Ending::Found
 }
 
-// Lays the open slots of a call from `slot` on, until one comes to a full plan or to the ceiling, and returns it; 32 where none does.
+// Lays the open slots of a call from `slot` on, until one comes to a full plan or to the ceiling, and returns that slot. Where none
+// does the call has no slot in the plan, and it returns 32.
 fn lay_slots(
     rows: &[u8; ROWS],
     lengths: &[u8; 64],
@@ -108,16 +109,17 @@ fn lay_slots(
     call: usize,
     slot: usize,
 ) -> usize
-    requires { ⌜ Blank (suc call) (now plan) ⌝ }
+    requires { ⌜ Clear (call + 1) (now plan) ⌝ }
     requires { ⌜ 0 < now left ⌝ }
     requires { ⌜ call < 32 ⌝ }
     requires { ⌜ slot ≤ 32 ⌝ }
-    ensures { λ r. ⌜ SlotsLaid call
+    ensures { λ r. ⌜ StepEnded
         (triesFrom (lentTask (rows .entry) (lengths .entry) (columns .entry) (masks .entry) (due .entry) (opened .entry) (calls .entry)) call slot (now (plan .entry)))
-        (now (left .entry)) (now (plan .entry)) (now (left .exit)) (now (plan .exit)) r ⌝ }
+        (now (left .entry)) (now (left .exit)) (set (now (plan .entry)) call noSlotGiven) (now (plan .exit)) (endingAt r (now (left .exit))) ⌝ }
 {
     let s = next_open(opened[call], slot);
     if 32 <= s {
+        plan[call] = 255;
         return 32;
     }
     let ending = lay_slot(
@@ -166,13 +168,13 @@ fn lay_slot(
     call: usize,
     slot: usize,
 ) -> Ending
-    requires { ⌜ Blank (suc call) (now plan) ⌝ }
+    requires { ⌜ Clear (call + 1) (now plan) ⌝ }
     requires { ⌜ 0 < now left ⌝ }
     requires { ⌜ call < 32 ⌝ }
     requires { ⌜ slot < 32 ⌝ }
-    ensures { λ r. ⌜ SlotLaid call slot
+    ensures { λ r. ⌜ StepEnded
         (after 1 (behindSlot (lentTask (rows .entry) (lengths .entry) (columns .entry) (masks .entry) (due .entry) (opened .entry) (calls .entry)) call slot (now (plan .entry))))
-        (now (left .entry)) (now (plan .entry)) (now (left .exit)) (now (plan .exit)) r ⌝ }
+        (now (left .entry)) (now (left .exit)) (set (now (plan .entry)) call slot) (now (plan .exit)) r ⌝ }
 {
     *left = *left - 1;
     if *left == 0 {

@@ -5,8 +5,6 @@ use plan_fit::columns::plan_word;
 use plan_fit::rows::has_row;
 ghost use mathlib.Core.Path.{_≡_};
 ghost use Prim.Native.Nat.{_<_};
-ghost use lib.ListN.{length};
-ghost use Rattle.layout.specs.Sizes.{rowsLength};
 ghost use Rattle.plan_tables.specs.Fit.{fittedBy, staysBy};
 
 // Some row of rule p has the plan's slots in the columns that count.
@@ -18,7 +16,6 @@ fn rule_fits(
     plan: &[u8; 32],
     p: usize,
 ) -> bool
-    requires { ⌜ length (now rows) ≡ rowsLength ⌝ }
     requires { ⌜ p < 64 ⌝ }
     ensures { λ r. ⌜ r ≡ fittedBy (now (rows .entry)) (now (lengths .entry)) (now (columns .entry)) (now (masks .entry)) (now (plan .entry)) p ⌝ }
 {
@@ -35,7 +32,6 @@ pub fn rules_fit(
     plan: &[u8; 32],
     rules: u64,
 ) -> bool
-    requires { ⌜ length (now rows) ≡ rowsLength ⌝ }
     ensures { λ r. ⌜ r ≡ staysBy (now (rows .entry)) (now (lengths .entry)) (now (columns .entry)) (now (masks .entry)) rules (now (plan .entry)) ⌝ }
 {
     let mut left = rules;

@@ -26,7 +26,7 @@ has-row-requires : tie.Need-has-row-requires
 has-row-requires c κs = search needs
 
 returns : tie.Need-returns
-returns c = fitted-by _ _ _ _ _ _ (rw (← c .before .before .before .columns-at .ensures) (c .before .before .plan-word .ensures)) (c .has-row .ensures)
+returns c = fitted-by _ _ _ _ _ _ (rw (← c .before .before .before .before .columns-at .ensures) (c .before .before .before .plan-word .ensures)) (c .has-row .ensures)
 
 pub rule-fits-spec : {M : Type 1} → statement M
 rule-fits-spec =

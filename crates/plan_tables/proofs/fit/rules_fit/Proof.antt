@@ -30,7 +30,7 @@ cast-p : tie.Need-cast-p Inv-loop μ-loop
 cast-p c = omega (arith, below c)
 
 rule-fits-requires : tie.Need-rule-fits-requires Inv-loop μ-loop
-rule-fits-requires c κs = (c .before .before .before .pre, below c)
+rule-fits-requires c κs = below c
 
 returns : tie.Need-returns Inv-loop μ-loop
 returns c =
