@@ -9,7 +9,6 @@ use Rattle.tables.specs.Masks.{bitOf}
 use Rattle.plan_model.specs.Plans.{planSize}
 use Rattle.plan_search.specs.Search.{Result, nothing, Task, tries, search}
 use Rattle.plan_search.specs.First.{noPlan, Ended, full, none, stopped, cut}
-use Rattle.plan_tables.specs.Lookup.{ColumnMasks}
 use Rattle.plan_tables.specs.Due.{DueRules}
 use Rattle.plan_tables.specs.Fit.{staysBy}
 use Rattle.plan_lay.specs.declared.first.Laid.{Laid}
@@ -17,12 +16,12 @@ use Rattle.plan_lay.specs.declared.lay.Ending.{Ending}
 use Rattle.plan_lay.specs.declared.lay.Ending.the-variants as ending
 
 -- THE TASK: the calls that have slots, the slots in each call's mask, and of the rules those that the call makes due
-abbrev pub tableTask : List ℕ → List ℕ → List ℕ → List ℕ → List ℕ → List ℕ → List ℕ → Task
-tableTask rows lengths columns masks due opened calls =
+abbrev pub tableTask : List ℕ → List ℕ → List ℕ → List ℕ → List ℕ → List ℕ → Task
+tableTask words lengths columns due opened calls =
     record {
       lays = λ c. not (eqb (getD calls c 0) 0);
       opens = λ c s. eqb (bitOf (getD opened c 0) s) 1;
-      stays = λ c plan. staysBy rows lengths columns masks (getD due c 0) plan;
+      stays = λ c plan. staysBy words lengths columns (getD due c 0) plan;
     }
 
 -- THE STEPS: the calls from c on; the slots of call c from s on; and what is behind slot s of call c
@@ -77,10 +76,8 @@ pub record StepEnded (r : Result) (left rest : ℕ) (back plan : List ℕ) (e : 
 unfoldable pub endedOf : Laid → Ended
 endedOf r = endedWith (r .ending) (r .plan) (r .trials)
 
--- THE WHOLE SEARCH, from the first call on with none laid, by the masks and the due rules that belong to the columns
-pub record LaidBy (rows lengths columns opened calls : List ℕ) (ceiling : ℕ) (r : Laid) : Type 0 where
-  pub masks : List ℕ
+-- THE WHOLE SEARCH, from the first call on with none laid, by the due rules that belong to the columns
+pub record LaidBy (words lengths columns opened calls : List ℕ) (ceiling : ℕ) (r : Laid) : Type 0 where
   pub due : List ℕ
-  pub masked : ColumnMasks columns masks
   pub dues : DueRules calls columns 64 due
-  pub ended : endedOf r ≡ cut ceiling (callsFrom (tableTask rows lengths columns masks due opened calls) 0 noPlan)
+  pub ended : endedOf r ≡ cut ceiling (callsFrom (tableTask words lengths columns due opened calls) 0 noPlan)

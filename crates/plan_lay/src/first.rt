@@ -1,7 +1,6 @@
 // The checks of the question, and the search from the tables to the answer.
 use crate::lay::Ending;
 use crate::lay::lay_calls;
-use layout::value::ROWS;
 use layout::value::bad_lengths;
 use model::refusal::BUFFER_LENGTH;
 use model::refusal::NO_BOARD;
@@ -9,10 +8,10 @@ use model::refusal::or_refuse;
 use plan_search::answer::FirstPlan;
 use plan_search::answer::PlanAnswer;
 use plan_tables::due::due_rules;
+use plan_tables::lookup::WORDS;
 use plan_tables::lookup::call_slots;
-use plan_tables::lookup::column_masks;
-use plan_tables::lookup::copy_rows;
 use plan_tables::lookup::open_masks;
+use plan_tables::lookup::row_words;
 use plan_tables::lookup::rule_columns;
 ghost use mathlib.Core.Path.{_≡_};
 ghost use Prim.Native.Nat.{_+_, _-_, _≤_, min};
@@ -52,7 +51,7 @@ fn trials_made(ceiling: u32, left: u64) -> u32
 
 // The search from the first call on, with no call laid.
 fn lay_all(
-    rows: &[u8; ROWS],
+    words: &[u32; WORDS],
     lengths: &[u8; 64],
     columns: &[u8; 256],
     opened: &[u32; 32],
@@ -60,17 +59,15 @@ fn lay_all(
     ceiling: u32,
 ) -> Laid
     ensures { λ r. ⌜ LaidBy
-        (now (rows .entry)) (now (lengths .entry)) (now (columns .entry)) (now (opened .entry)) (now (calls .entry)) ceiling r ⌝ }
+        (now (words .entry)) (now (lengths .entry)) (now (columns .entry)) (now (opened .entry)) (now (calls .entry)) ceiling r ⌝ }
 {
-    let masks = column_masks(columns);
     let due = due_rules(calls, columns);
     let mut plan = [255u8; 32];
     let mut left = (ceiling as u64) + 1;
     let ending = lay_calls(
-        rows,
+        words,
         lengths,
         columns,
-        &masks,
         &due,
         opened,
         calls,
@@ -103,8 +100,8 @@ pub fn lay_plan(
     let columns = rule_columns(arity, scope, slots);
     let calls = call_slots(counts, slots);
     let opened = open_masks(slots);
-    let held = copy_rows(rows);
-    lay_all(&held, lengths, &columns, &opened, &calls, ceiling)
+    let words = row_words(rows, lengths, &columns);
+    lay_all(&words, lengths, &columns, &opened, &calls, ceiling)
 }
 
 // The answer that a search ends with.

@@ -1,7 +1,7 @@
 // The search by the tables, by recursion that falls on the calls and the slots left: a slot for each call in rising order, and back to the call before where none is left.
 // What is left of the ceiling is counted down: `left` is one more than the trials that may still be made, and 0 where one more was needed.
-use layout::value::ROWS;
 use plan_tables::fit::rules_fit;
+use plan_tables::lookup::WORDS;
 ghost use Prim.Native.Nat.{_+_, _<_, _≤_};
 ghost use lib.ListN.{set};
 ghost use Rattle.model.specs.Board.{noSlotGiven};
@@ -37,10 +37,9 @@ fn next_open(mask: u32, slot: usize) -> usize
 
 // Lays the calls from `call` on. Where no slot of it is left, the plan is as it was.
 pub fn lay_calls(
-    rows: &[u8; ROWS],
+    words: &[u32; WORDS],
     lengths: &[u8; 64],
     columns: &[u8; 256],
-    masks: &[u32; 64],
     due: &[u64; 32],
     opened: &[u32; 32],
     calls: &[u8; 32],
@@ -52,7 +51,7 @@ pub fn lay_calls(
     requires { ⌜ 0 < now left ⌝ }
     requires { ⌜ call ≤ 32 ⌝ }
     ensures { λ r. ⌜ StepEnded
-        (callsFrom (lentTask (rows .entry) (lengths .entry) (columns .entry) (masks .entry) (due .entry) (opened .entry) (calls .entry)) call (now (plan .entry)))
+        (callsFrom (lentTask (words .entry) (lengths .entry) (columns .entry) (due .entry) (opened .entry) (calls .entry)) call (now (plan .entry)))
         (now (left .entry)) (now (left .exit)) (now (plan .entry)) (now (plan .exit)) r ⌝ }
 {
     if 32 <= call {
@@ -60,10 +59,9 @@ pub fn lay_calls(
     }
     if calls[call] == 0 {
         return lay_calls(
-            rows,
+            words,
             lengths,
             columns,
-            masks,
             due,
             opened,
             calls,
@@ -73,10 +71,9 @@ pub fn lay_calls(
         );
     }
     let s = lay_slots(
-        rows,
+        words,
         lengths,
         columns,
-        masks,
         due,
         opened,
         calls,
@@ -97,10 +94,9 @@ pub fn lay_calls(
 // Lays the open slots of a call from `slot` on, until one comes to a full plan or to the ceiling, and returns that slot. Where none
 // does the call has no slot in the plan, and it returns 32.
 fn lay_slots(
-    rows: &[u8; ROWS],
+    words: &[u32; WORDS],
     lengths: &[u8; 64],
     columns: &[u8; 256],
-    masks: &[u32; 64],
     due: &[u64; 32],
     opened: &[u32; 32],
     calls: &[u8; 32],
@@ -114,7 +110,7 @@ fn lay_slots(
     requires { ⌜ call < 32 ⌝ }
     requires { ⌜ slot ≤ 32 ⌝ }
     ensures { λ r. ⌜ StepEnded
-        (triesFrom (lentTask (rows .entry) (lengths .entry) (columns .entry) (masks .entry) (due .entry) (opened .entry) (calls .entry)) call slot (now (plan .entry)))
+        (triesFrom (lentTask (words .entry) (lengths .entry) (columns .entry) (due .entry) (opened .entry) (calls .entry)) call slot (now (plan .entry)))
         (now (left .entry)) (now (left .exit)) (set (now (plan .entry)) call noSlotGiven) (now (plan .exit)) (endingAt r (now (left .exit))) ⌝ }
 {
     let s = next_open(opened[call], slot);
@@ -123,10 +119,9 @@ fn lay_slots(
         return 32;
     }
     let ending = lay_slot(
-        rows,
+        words,
         lengths,
         columns,
-        masks,
         due,
         opened,
         calls,
@@ -139,10 +134,9 @@ fn lay_slots(
         Ending::Found => s,
         Ending::Stopped => s,
         Ending::Nothing => lay_slots(
-            rows,
+            words,
             lengths,
             columns,
-            masks,
             due,
             opened,
             calls,
@@ -156,10 +150,9 @@ fn lay_slots(
 
 // Lays an open slot, which is a trial, and where it stays the calls behind it.
 fn lay_slot(
-    rows: &[u8; ROWS],
+    words: &[u32; WORDS],
     lengths: &[u8; 64],
     columns: &[u8; 256],
-    masks: &[u32; 64],
     due: &[u64; 32],
     opened: &[u32; 32],
     calls: &[u8; 32],
@@ -173,7 +166,7 @@ fn lay_slot(
     requires { ⌜ call < 32 ⌝ }
     requires { ⌜ slot < 32 ⌝ }
     ensures { λ r. ⌜ StepEnded
-        (after 1 (behindSlot (lentTask (rows .entry) (lengths .entry) (columns .entry) (masks .entry) (due .entry) (opened .entry) (calls .entry)) call slot (now (plan .entry))))
+        (after 1 (behindSlot (lentTask (words .entry) (lengths .entry) (columns .entry) (due .entry) (opened .entry) (calls .entry)) call slot (now (plan .entry))))
         (now (left .entry)) (now (left .exit)) (set (now (plan .entry)) call slot) (now (plan .exit)) r ⌝ }
 {
     *left = *left - 1;
@@ -181,14 +174,13 @@ fn lay_slot(
         return Ending::Stopped;
     }
     plan[call] = slot as u8;
-    if !rules_fit(rows, lengths, columns, masks, plan, due[call]) {
+    if !rules_fit(words, lengths, columns, plan, due[call]) {
         return Ending::Nothing;
     }
     lay_calls(
-        rows,
+        words,
         lengths,
         columns,
-        masks,
         due,
         opened,
         calls,

@@ -4,10 +4,12 @@ use mathlib.Core.List.{List, [], _∷_}
 use Prim.Native.Nat.{ℕ, _+_, _*_, _/_, _%_, _<_}
 use lib.ListN.{length, getD}
 use Rattle.tables.specs.Masks.{IsMask}
-use Rattle.layout.specs.Places.{causeOf}
+use lib.Bits.{bitAnd}
+use Rattle.layout.specs.Places.{causeOf, rowStart, rowsOf}
 use Rattle.layout.specs.Memory.{State}
 use Rattle.plan_model.specs.Plans.{slotsOnIn}
-use Rattle.plan_fit.specs.Words.{columnCall, maskByte, IsWord}
+use Rattle.masks.specs.Columns.{wordAt}
+use Rattle.plan_fit.specs.Words.{columnCall, maskByte}
 
 -- A TABLE of so many entries, the first n of which have P
 pub record Entries (P : ℕ → ℕ → Type 0) (size n : ℕ) (l : List ℕ) : Type 0 where
@@ -31,5 +33,22 @@ abbrev pub columnsAt : List ℕ → ℕ → List ℕ
 columnsAt columns p = getD columns (4 * p) 0 ∷ getD columns (4 * p + 1) 0 ∷ getD columns (4 * p + 2) 0 ∷ getD columns (4 * p + 3) 0 ∷ []
 
 -- and as a word that has all bits of each column that counts
-abbrev pub ColumnMasks : List ℕ → List ℕ → Type 0
-ColumnMasks columns masks = Entries (λ p m. IsWord (columnsAt columns p) maskByte m) 64 64 masks
+abbrev pub maskBy : List ℕ → ℕ → ℕ
+maskBy columns p =
+    maskByte (getD columns (4 * p) 0) + 256 * maskByte (getD columns (4 * p + 1) 0) + 65536 * maskByte (getD columns (4 * p + 2) 0)
+    + 16777216 * maskByte (getD columns (4 * p + 3) 0)
+
+-- A WORD FOR EACH ROW that there can be, 64 to a rule
+abbrev pub wordsLength : ℕ
+wordsLength = 4096
+
+-- the first n rows of rule p are made words, in the columns of the mask; those of the rules before it stay
+pub record WordsMade (rows : List ℕ) (p mask n : ℕ) (old new : List ℕ) : Type 0 where
+  pub long : length new ≡ length old
+  pub here : (w : ℕ) → w < n → getD new (64 * p + w) 0 ≡ bitAnd (wordAt rows (rowStart p w)) mask
+  pub before : (j : ℕ) → j < 64 * p → getD new j 0 ≡ getD old j 0
+
+-- THE ROWS AS WORDS, of the first n rules, with 0 in the columns that do not count
+pub record RowWords (rows lengths columns : List ℕ) (n : ℕ) (words : List ℕ) : Type 0 where
+  pub long : length words ≡ wordsLength
+  pub each : (p : ℕ) → p < n → (w : ℕ) → w < rowsOf lengths p → getD words (64 * p + w) 0 ≡ bitAnd (wordAt rows (rowStart p w)) (maskBy columns p)

@@ -1,16 +1,20 @@
 // What the search looks up at each slot, made once off the value and the bytes: which calls are to be laid and their open slots, the calls of every rule's columns,
-// these columns as masks, and the rows.
-use layout::value::ROWS;
+// and the rows as words.
+use layout::places::cap;
+use masks::columns::word;
 use masks::slots::slots_with;
 use plan_fit::calls::slots_for;
 use plan_fit::columns::column_call;
 use plan_fit::columns::column_mask;
 ghost use mathlib.Core.Path.{_≡_};
-ghost use Prim.Native.Nat.{_<_};
+ghost use Prim.Native.Nat.{_<_, _≤_};
 ghost use lib.ListN.{length};
 ghost use Rattle.layout.specs.Sizes.{slotsLength, rowsLength};
 ghost use Rattle.plan_fit.specs.Parts.{callParts};
-ghost use Rattle.plan_tables.specs.Lookup.{CallSlots, OpenMasks, RuleColumns, columnsAt, ColumnMasks};
+ghost use Rattle.plan_tables.specs.Lookup.{CallSlots, OpenMasks, RuleColumns, columnsAt, wordsLength, WordsMade, RowWords};
+
+// A word for each row that there can be.
+pub const WORDS: usize = 4096;
 
 // How many slots each call has in a plan: 0 for one that is not to be laid.
 pub fn call_slots(counts: &[u8; 32], slots: &[u8]) -> [u8; 32]
@@ -65,29 +69,33 @@ pub fn columns_at(columns: &[u8; 256], p: usize) -> [u8; 4]
     ]
 }
 
-// The columns of each rule that count, as a word with all bits of each.
-pub fn column_masks(columns: &[u8; 256]) -> [u32; 64]
-    ensures { λ r. ⌜ ColumnMasks (now (columns .entry)) r ⌝ }
+// The rows of rule p as words, in the columns of the mask.
+fn rule_words(rows: &[u8], held: usize, p: usize, mask: u32, words: &mut [u32; WORDS])
+    requires { ⌜ length (now rows) ≡ rowsLength ⌝ }
+    requires { ⌜ length (now words) ≡ wordsLength ⌝ }
+    requires { ⌜ held ≤ 64 ⌝ }
+    requires { ⌜ p < 64 ⌝ }
+    ensures { λ _. ⌜ WordsMade (now (rows .entry)) p mask held (now (words .entry)) (now (words .exit)) ⌝ }
 {
-    let mut masks = [0u32; 64];
-    let mut p = 0;
-    while p < 64 {
-        masks[p] = column_mask(columns_at(columns, p));
-        p += 1;
+    let mut w = 0;
+    while w < held {
+        words[64 * p + w] = word(rows, 256 * p + 4 * w) & mask;
+        w += 1;
     }
-    masks
 }
 
-// The rows, in an array that is lent by a plain pointer: the recursion then hands on no slice, so that the compiler makes a loop of its step from slot to slot.
-pub fn copy_rows(rows: &[u8]) -> [u8; ROWS]
+// The rows of every rule as words, with 0 in the columns that do not count: rule p's from 64 * p on.
+pub fn row_words(rows: &[u8], lengths: &[u8; 64], columns: &[u8; 256]) -> [u32; WORDS]
     requires { ⌜ length (now rows) ≡ rowsLength ⌝ }
-    ensures { λ r. ⌜ r ≡ now (rows .entry) ⌝ }
+    ensures { λ r. ⌜ RowWords (now (rows .entry)) (now (lengths .entry)) (now (columns .entry)) 64 r ⌝ }
 {
-    let mut copy = [0u8; ROWS];
-    let mut i = 0;
-    while i < ROWS {
-        copy[i] = rows[i];
-        i += 1;
+    let mut words = [0u32; WORDS];
+    let mut p = 0;
+    while p < 64 {
+        let held = cap(lengths[p], 64);
+        let mask = column_mask(columns_at(columns, p));
+        rule_words(rows, held, p, mask, &mut words);
+        p += 1;
     }
-    copy
+    words
 }

@@ -19,7 +19,7 @@ use Rattle.plan_search.specs.Laws.First.{first-promise}
 use Rattle.plan_lay.specs.declared.first.Laid.{Laid}
 use Rattle.plan_lay.specs.declared.lay.Ending.{Ending}
 use Rattle.plan_lay.specs.declared.lay.Ending.the-variants as ending
-use Rattle.plan_tables.specs.Lookup.{CallSlots, OpenMasks, RuleColumns, ColumnMasks}
+use Rattle.plan_tables.specs.Lookup.{CallSlots, OpenMasks, RuleColumns, RowWords}
 use Rattle.plan_tables.specs.Due.{DueRules}
 use Rattle.plan_lay.specs.Lay.{tableTask, callsFrom, endedWith, Rest, StepEnded, endedOf, LaidBy}
 use Rattle.plan_lay.specs.Laws.Agree.{search-agrees}
@@ -30,25 +30,23 @@ made ending.Found plan ceiling left h = let z : min (ceiling + 1 - left) ceiling
 made ending.Nothing plan ceiling left h = let z : min (ceiling + 1 - left) ceiling ≡ ceiling + 1 - left = omega arith in rw z refl
 made ending.Stopped plan ceiling left h = refl
 
-pub laid-by : (rows lengths columns opened calls : List ℕ) {masks due : List ℕ} (ceiling : ℕ) {left n : ℕ} {back plan : List ℕ} {e : Ending} → ColumnMasks columns masks
-    → DueRules calls columns 64 due → StepEnded (callsFrom (tableTask rows lengths columns masks due opened calls) 0 noPlan) (ceiling + 1) left back plan e
-    → n ≡ min (ceiling + 1 - left) ceiling → LaidBy rows lengths columns opened calls ceiling (record { plan = plan; ending = e; trials = n })
+pub laid-by : (words lengths columns opened calls : List ℕ) {due : List ℕ} (ceiling : ℕ) {left n : ℕ} {back plan : List ℕ} {e : Ending} → DueRules calls columns 64 due
+    → StepEnded (callsFrom (tableTask words lengths columns due opened calls) 0 noPlan) (ceiling + 1) left back plan e
+    → n ≡ min (ceiling + 1 - left) ceiling → LaidBy words lengths columns opened calls ceiling (record { plan = plan; ending = e; trials = n })
 unfolding endedOf
-laid-by rows lengths columns opened calls {masks} {due} ceiling {left} {n} {back} {plan} {e} masked dues x is =
+laid-by words lengths columns opened calls {due} ceiling {left} {n} {back} {plan} {e} dues x is =
     let z : ceiling + 1 - 1 ≡ ceiling = omega arith in
     record {
-      masks = masks;
       due = due;
-      masked = masked;
       dues = dues;
       ended = ap (endedWith e plan) is ∙ made e plan ceiling left (x .remains) ∙ (rw z at (x .ended));
     }
 
-pub laid-plan : (s : State) {columns opened calls : List ℕ} (ceiling : ℕ) (r : Laid) → RuleColumns (s .value .heads .arity) (s .value .heads .scope) (s .slots) columns
-    → CallSlots s calls → OpenMasks (s .slots) opened → ((j : ℕ) → getD (s .rows) j 0 < 256)
-    → LaidBy (s .rows) (s .value .heads .lengths) columns opened calls ceiling r → endedOf r ≡ cut ceiling (searchAll (memoryTask s))
-laid-plan s {columns} {opened} {calls} ceiling r is-columns is-calls is-opened bytes by =
-    by .ended ∙ ap (cut ceiling) (search-agrees s columns calls opened (by .masks) (by .due) is-columns is-calls is-opened (by .masked) (by .dues) bytes)
+pub laid-plan : (s : State) {words columns opened calls : List ℕ} (ceiling : ℕ) (r : Laid) → RuleColumns (s .value .heads .arity) (s .value .heads .scope) (s .slots) columns
+    → CallSlots s calls → OpenMasks (s .slots) opened → RowWords (s .rows) (s .value .heads .lengths) columns 64 words → ((j : ℕ) → getD (s .rows) j 0 < 256)
+    → LaidBy words (s .value .heads .lengths) columns opened calls ceiling r → endedOf r ≡ cut ceiling (searchAll (memoryTask s))
+laid-plan s {words} {columns} {opened} {calls} ceiling r is-columns is-calls is-opened is-words bytes by =
+    by .ended ∙ ap (cut ceiling) (search-agrees s columns calls opened words (by .due) is-columns is-calls is-opened is-words (by .dues) bytes)
 
 -- THE ANSWER, by how the search ended
 module _ (r : Laid) (ceiling : ℕ) where

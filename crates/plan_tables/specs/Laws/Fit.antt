@@ -3,7 +3,7 @@ use mathlib.Core.Path.{_≡_, sym}
 use mathlib.Core.Bool.{Bool, true, false, not, _||_}
 use mathlib.Core.List.{List}
 use mathlib.Core.Logic.{inl, inr, ⊎-elim, _≢_}
-use Prim.Native.Nat.{ℕ, _-_, _^_, _<_}
+use Prim.Native.Nat.{ℕ, _+_, _-_, _*_, _^_, _<_}
 use lib.ListN.{getD}
 use lib.Dec.{eqb}
 use lib.Bits.{bitAnd}
@@ -15,19 +15,19 @@ use Rattle.tables.specs.Laws.Left.{Left, Removed, left-all, left-lowest, left-m
 use Rattle.layout.specs.Places.{rowsOf}
 use Rattle.model.specs.Tests.{some?, every?}
 use Rattle.model.specs.Laws.Tests.{→T, T→, not→, →or, every→, →every}
-use Rattle.plan_fit.specs.Words.{planByte, IsWord, rowMatches?}
+use Rattle.plan_fit.specs.Words.{planByte, IsWord}
 use Rattle.plan_tables.specs.Lookup.{columnsAt}
 use Rattle.plan_tables.specs.Fit.{wantedBy, fittedBy, staysBy}
 
 -- ONE RULE, by the word that the code makes of the plan
-pub fitted-by : (rows lengths columns masks plan : List ℕ) (p : ℕ) {wanted : ℕ} {b : Bool} → IsWord (columnsAt columns p) (planByte plan) wanted
-    → b ≡ some? (rowsOf lengths p) (rowMatches? rows p (getD masks p 0) wanted) → b ≡ fittedBy rows lengths columns masks plan p
+pub fitted-by : (words lengths columns plan : List ℕ) (p : ℕ) {wanted : ℕ} {b : Bool} → IsWord (columnsAt columns p) (planByte plan) wanted
+    → b ≡ some? (rowsOf lengths p) (λ w. eqb (getD words (64 * p + w) 0) wanted) → b ≡ fittedBy words lengths columns plan p
 unfolding fittedBy wantedBy
-fitted-by rows lengths columns masks plan p word e = rw (← word .is) e
+fitted-by words lengths columns plan p word e = rw (← word .is) e
 
-module _ (rows lengths columns masks plan : List ℕ) where
+module _ (words lengths columns plan : List ℕ) where
   abbrev fits : ℕ → Bool
-  fits p = fittedBy rows lengths columns masks plan p
+  fits p = fittedBy words lengths columns plan p
 
   pub record FitSoFar (rules left : ℕ) : Type 0 where
     pub lowest-first : Left 64 rules left
@@ -46,7 +46,7 @@ module _ (rows lengths columns masks plan : List ℕ) where
   abbrev passes : ℕ → ℕ → Bool
   passes rules p = not (eqb (bitOf rules p) 1) || fits p
 
-  pub fit-all : {rules left : ℕ} → left ≡ 0 → FitSoFar rules left → true ≡ staysBy rows lengths columns masks rules plan
+  pub fit-all : {rules left : ℕ} → left ≡ 0 → FitSoFar rules left → true ≡ staysBy words lengths columns rules plan
   unfolding staysBy
   fit-all {rules} z x =
       sym (T→ (every? 64 (passes rules))
@@ -55,7 +55,7 @@ module _ (rows lengths columns masks plan : List ℕ) where
       →or (not (eqb (bitOf rules p) 1)) (fits p)
       (⊎-elim (λ (b : bitOf rules p ≡ 1). inr (→T (fits p) (x .fit p (taken-all z b)))) (λ n. inl (rw (ne-eqb (bitOf rules p) 1 n) tt)) (eq-or-ne (bitOf rules p) 1)))))
 
-  pub fit-fails : {rules left : ℕ} → left ≢ 0 → FitSoFar rules left → fits (trailingZeros 64 left) ≡ false → false ≡ staysBy rows lengths columns masks rules plan
+  pub fit-fails : {rules left : ℕ} → left ≢ 0 → FitSoFar rules left → fits (trailingZeros 64 left) ≡ false → false ≡ staysBy words lengths columns rules plan
   unfolding staysBy
   fit-fails {rules} {left} n x e =
       let low = left-lowest n (x .lowest-first) in

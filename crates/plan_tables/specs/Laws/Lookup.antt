@@ -1,15 +1,18 @@
--- A TABLE IS MADE ENTRY BY ENTRY; and the four columns of a rule are those that plan_fit speaks of. Assumes nothing.
-use mathlib.Core.Path.{_≡_, refl, _∙_}
+-- A TABLE IS MADE ENTRY BY ENTRY, the four columns of a rule are those that plan_fit speaks of, and rows are made words rule by rule. Assumes nothing.
+use mathlib.Core.Path.{_≡_, refl, ap, _∙_}
 use mathlib.Core.List.{List}
 use mathlib.Core.Logic.{⊎-elim}
 use Prim.Native.Nat.{ℕ, _+_, _*_, _/_, _%_, _<_, _≤_}
 use native.Mathlib.Omega.{arith}
 use lib.ListN.{length, getD, set, replicate, length-set, length-replicate}
 use lib.Seq.{getD-set-same, getD-set-other}
+use lib.Bits.{bitAnd}
 use Rattle.tables.specs.Laws.Facts.{eq-or-ne}
+use Rattle.layout.specs.Places.{rowStart, rowsOf}
+use Rattle.masks.specs.Columns.{wordAt}
 use Rattle.masks.specs.Laws.Columns.{four}
-use Rattle.plan_fit.specs.Words.{columnCall, ColumnCalls}
-use Rattle.plan_tables.specs.Lookup.{Entries, RuleColumns, columnsAt}
+use Rattle.plan_fit.specs.Words.{columnCall, ColumnCalls, maskByte, IsWord}
+use Rattle.plan_tables.specs.Lookup.{Entries, RuleColumns, columnsAt, wordsLength, WordsMade, RowWords}
 
 module _ (P : ℕ → ℕ → Type 0) (size : ℕ) where
   pub entries-none : (v : ℕ) → Entries P size 0 (replicate size v)
@@ -42,4 +45,35 @@ module _ (arity scope slots columns : List ℕ) (made : RuleColumns arity scope 
         size = refl;
         each = four (λ k. getD (columnsAt columns p) k 0 ≡ columnCall arity scope slots p k) (rw first at (column-at 0 (omega arith))) (column-at 1 (omega arith))
             (column-at 2 (omega arith)) (column-at 3 (omega arith));
+      }
+
+-- THE WORDS OF ONE RULE, row by row
+module _ (rows : List ℕ) (p mask : ℕ) where
+  pub words-none : (l : List ℕ) → WordsMade rows p mask 0 l l
+  words-none l = record { long = refl; here = λ w h. absurd (omega arith); before = λ j h. refl }
+
+  pub words-more : {n v : ℕ} {old new : List ℕ} → WordsMade rows p mask n old new → 64 * p + n < length old → v ≡ bitAnd (wordAt rows (rowStart p n)) mask
+      → WordsMade rows p mask (n + 1) old (set new (64 * p + n) v)
+  words-more {n} {v} {old} {new} x h e =
+      record {
+        long = length-set new (64 * p + n) v ∙ x .long;
+        here = λ w l.
+            ⊎-elim (λ (z : w ≡ n). rw z (getD-set-same new (64 * p + n) v 0 (rw (x .long) h) ∙ e))
+            (λ (ne : w ≡ n → ⊥). getD-set-other new (64 * p + n) (64 * p + w) v 0 (λ z. ne (omega arith)) ∙ x .here w (omega (arith, ne))) (eq-or-ne w n);
+        before = λ j l. getD-set-other new (64 * p + n) j v 0 (λ z. omega arith) ∙ x .before j l;
+      }
+
+-- THE WORDS OF ALL RULES, rule by rule: a rule has no more than 64
+module _ (rows lengths columns : List ℕ) where
+  pub all-none : (v : ℕ) → RowWords rows lengths columns 0 (replicate wordsLength v)
+  all-none v = record { long = length-replicate wordsLength v; each = λ p h. absurd (omega arith) }
+
+  pub all-more : {p mask held : ℕ} {old new : List ℕ} → RowWords rows lengths columns p old → held ≡ rowsOf lengths p → IsWord (columnsAt columns p) maskByte mask
+      → WordsMade rows p mask held old new → RowWords rows lengths columns (p + 1) new
+  all-more {p} {mask} {held} {old} {new} x e word y =
+      record {
+        long = y .long ∙ x .long;
+        each = λ q h w l.
+            ⊎-elim (λ (z : q ≡ p). let m : w < held = rw (z, ← e) at l in rw z (y .here w m ∙ ap (bitAnd (wordAt rows (rowStart p w))) (word .is)))
+            (λ (ne : q ≡ p → ⊥). y .before (64 * q + w) (omega (arith, ne)) ∙ x .each q (omega (arith, ne)) w l) (eq-or-ne q p);
       }

@@ -1,4 +1,4 @@
--- The masks and the due rules that the code makes are those of the columns; no call is laid, and all trials are left.
+-- The due rules that the code makes are those of the columns; no call is laid, and all trials are left.
 use native.Mathlib.Omega.{arith}
 use borrow.Author.Needs.{needs}
 use Rattle.plan_search.specs.Laws.Full.{clear-first}
@@ -10,10 +10,6 @@ use Rattle.plan_lay.proofs.first.lay_all.Lts as lts
 use Rattle.plan_lay.proofs.first.trials_made.Reads as trials-made-reads
 use Rattle.plan_lay.proofs.lay.lay_calls.Reads as lay-calls-reads
 use Rattle.plan_tables.proofs.due.due_rules.Reads as due-rules-reads
-use Rattle.plan_tables.proofs.lookup.column_masks.Reads as column-masks-reads
-
-column-masks-requires : tie.Need-column-masks-requires
-column-masks-requires c κs = search needs
 
 due-rules-requires : tie.Need-due-rules-requires
 due-rules-requires c κs = search needs
@@ -30,14 +26,12 @@ trials-made-requires c κs = c .lay-calls .ensures .fewer
 returns : tie.Need-returns
 returns c =
     let laid = c .before in
-    let tables = laid .before .before .before .before .before in
-    laid-by _ _ _ _ _ _ (tables .before .column-masks .ensures) (tables .due-rules .ensures) (laid .lay-calls .ensures) (c .trials-made .ensures)
+    laid-by _ _ _ _ _ _ (laid .before .before .before .before .due-rules .ensures) (laid .lay-calls .ensures) (c .trials-made .ensures)
 
 pub lay-all-spec : {M : Type 1} → statement M
 lay-all-spec =
     tie.close
     (tie.spec
-    column-masks-requires
     due-rules-requires
     add-left
     lay-calls-requires

@@ -23,34 +23,34 @@ use Rattle.plan_tables.proofs.fit.rules_fit.Reads as rules-fit-reads
 use Rattle.plan_lay.proofs.lay.+lay_calls+lay_slot+lay_slots.{statement}
 use Rattle.plan_lay.proofs.lay.+lay_calls+lay_slot+lay_slots.Tie.{close}
 
-abbrev μ-lay-calls : Measures 9 lay-calls-kinds.ps ℕ
-μ-lay-calls κs a = (33 - a .1 .1 .1 .1 .1 .1 .1 .1 .1 .0) * 80
+abbrev μ-lay-calls : Measures 8 lay-calls-kinds.ps ℕ
+μ-lay-calls κs a = (33 - a .1 .1 .1 .1 .1 .1 .1 .1 .0) * 80
 
-abbrev μ-lay-slot : Measures 9 lay-slot-kinds.ps ℕ
-μ-lay-slot κs a = (32 - a .1 .1 .1 .1 .1 .1 .1 .1 .1 .0) * 80 + (39 - a .1 .1 .1 .1 .1 .1 .1 .1 .1 .1 .0) * 2
+abbrev μ-lay-slot : Measures 8 lay-slot-kinds.ps ℕ
+μ-lay-slot κs a = (32 - a .1 .1 .1 .1 .1 .1 .1 .1 .0) * 80 + (39 - a .1 .1 .1 .1 .1 .1 .1 .1 .1 .0) * 2
 
-abbrev μ-lay-slots : Measures 9 lay-slots-kinds.ps ℕ
-μ-lay-slots κs a = (32 - a .1 .1 .1 .1 .1 .1 .1 .1 .1 .0) * 80 + (39 - a .1 .1 .1 .1 .1 .1 .1 .1 .1 .1 .0) * 2 + 1
+abbrev μ-lay-slots : Measures 8 lay-slots-kinds.ps ℕ
+μ-lay-slots κs a = (32 - a .1 .1 .1 .1 .1 .1 .1 .1 .0) * 80 + (39 - a .1 .1 .1 .1 .1 .1 .1 .1 .1 .0) * 2 + 1
 
 -- a call with the measure t, and those below it; what each function may rely on
 module _ (t : ℕ) where
-  abbrev lay-calls-at : In 9 lay-calls-kinds.ps
-  lay-calls-at = and 9 lay-calls-kinds.ps (is 9 lay-calls-kinds.ps μ-lay-calls t) lay-calls.Pre
+  abbrev lay-calls-at : In 8 lay-calls-kinds.ps
+  lay-calls-at = and 8 lay-calls-kinds.ps (is 8 lay-calls-kinds.ps μ-lay-calls t) lay-calls.Pre
 
-  abbrev lay-calls-below : In 9 lay-calls-kinds.ps
-  lay-calls-below = and 9 lay-calls-kinds.ps (falls 9 lay-calls-kinds.ps _<_ μ-lay-calls t) lay-calls.Pre
+  abbrev lay-calls-below : In 8 lay-calls-kinds.ps
+  lay-calls-below = and 8 lay-calls-kinds.ps (falls 8 lay-calls-kinds.ps _<_ μ-lay-calls t) lay-calls.Pre
 
-  abbrev lay-slot-at : In 9 lay-slot-kinds.ps
-  lay-slot-at = and 9 lay-slot-kinds.ps (is 9 lay-slot-kinds.ps μ-lay-slot t) lay-slot.Pre
+  abbrev lay-slot-at : In 8 lay-slot-kinds.ps
+  lay-slot-at = and 8 lay-slot-kinds.ps (is 8 lay-slot-kinds.ps μ-lay-slot t) lay-slot.Pre
 
-  abbrev lay-slot-below : In 9 lay-slot-kinds.ps
-  lay-slot-below = and 9 lay-slot-kinds.ps (falls 9 lay-slot-kinds.ps _<_ μ-lay-slot t) lay-slot.Pre
+  abbrev lay-slot-below : In 8 lay-slot-kinds.ps
+  lay-slot-below = and 8 lay-slot-kinds.ps (falls 8 lay-slot-kinds.ps _<_ μ-lay-slot t) lay-slot.Pre
 
-  abbrev lay-slots-at : In 9 lay-slots-kinds.ps
-  lay-slots-at = and 9 lay-slots-kinds.ps (is 9 lay-slots-kinds.ps μ-lay-slots t) lay-slots.Pre
+  abbrev lay-slots-at : In 8 lay-slots-kinds.ps
+  lay-slots-at = and 8 lay-slots-kinds.ps (is 8 lay-slots-kinds.ps μ-lay-slots t) lay-slots.Pre
 
-  abbrev lay-slots-below : In 9 lay-slots-kinds.ps
-  lay-slots-below = and 9 lay-slots-kinds.ps (falls 9 lay-slots-kinds.ps _<_ μ-lay-slots t) lay-slots.Pre
+  abbrev lay-slots-below : In 8 lay-slots-kinds.ps
+  lay-slots-below = and 8 lay-slots-kinds.ps (falls 8 lay-slots-kinds.ps _<_ μ-lay-slots t) lay-slots.Pre
 
   abbrev lay-calls-claims : lay-calls-lts.Claims
   lay-calls-claims = (lay-calls-below, lay-calls.Post, lay-slots-below, lay-slots.Post)

@@ -15,16 +15,16 @@ use Rattle.plan_tables.proofs.fit.rules_fit.Lts as lts
 use Rattle.plan_tables.proofs.fit.rule_fits.Reads as rule-fits-reads
 
 abbrev Inv-loop : tie.InvT-loop
-Inv-loop rows lengths columns masks plan rules left₀ left = FitSoFar rows lengths columns masks plan rules left
+Inv-loop words lengths columns plan rules left₀ left = FitSoFar words lengths columns plan rules left
 
 abbrev μ-loop : tie.MeasureT-loop
-μ-loop rows lengths columns masks plan rules left₀ left = left
+μ-loop words lengths columns plan rules left₀ left = left
 
 below : (c : tie.In-loop Inv-loop μ-loop) → trailingZeros 64 (c .before .loop .left) < 64
 below c = left-lowest (c .loop-test .taken) (c .before .loop .inv .lowest-first) .place
 
 loop-holds : tie.Need-loop-holds Inv-loop μ-loop
-loop-holds c = fit-start _ _ _ _ _ _ (omega arith)
+loop-holds c = fit-start _ _ _ _ _ (omega arith)
 
 cast-p : tie.Need-cast-p Inv-loop μ-loop
 cast-p c = omega (arith, below c)
@@ -34,7 +34,7 @@ rule-fits-requires c κs = below c
 
 returns : tie.Need-returns Inv-loop μ-loop
 returns c =
-    fit-fails _ _ _ _ _ (c .before .before .loop-test .taken) (c .before .before .before .loop .inv) (sym (c .before .rule-fits .ensures) ∙ not-true (c .before .rule-fits .result) (c .if1 .taken))
+    fit-fails _ _ _ _ (c .before .before .loop-test .taken) (c .before .before .before .loop .inv) (sym (c .before .rule-fits .ensures) ∙ not-true (c .before .rule-fits .result) (c .if1 .taken))
 
 sub-left : tie.Need-sub-left Inv-loop μ-loop
 sub-left c = search needs
@@ -44,11 +44,11 @@ loop-less c = let left = c .before .before .before .loop .left in omega (arith, 
 
 loop-again : tie.Need-loop-again Inv-loop μ-loop
 loop-again c =
-    fit-more _ _ _ _ _ (c .before .before .loop-test .taken) (c .before .before .before .loop .inv)
+    fit-more _ _ _ _ (c .before .before .loop-test .taken) (c .before .before .before .loop .inv)
     (sym (c .before .rule-fits .ensures) ∙ not-false (c .before .rule-fits .result) (c .if1 .left))
 
 returns-2 : tie.Need-returns-2 Inv-loop μ-loop
-returns-2 c = fit-all _ _ _ _ _ (c .loop-test .left) (c .before .loop .inv)
+returns-2 c = fit-all _ _ _ _ (c .loop-test .left) (c .before .loop .inv)
 
 pub rules-fit-spec : {M : Type 1} → statement M
 rules-fit-spec =
