@@ -375,8 +375,8 @@ struct berth_plan_reply berth_check_plan(struct berth_value value, const uint8_t
  * before. So of all full plans it is the one with the lowest slot for call 0, then for call 1, and so on. Where every call is cancelled it is found with 0
  * trials.
  *
- * The ceiling is the most trials that may be made, any number of 32 bits, and bounds the time. A search that needs as many is not stopped; one that needs more
- * is, and then there may be a full plan or none. Checked: 1, 6.
+ * The ceiling is the most trials that may be made, any number of 32 bits. It bounds the time, which can be minutes with the highest. A search that needs as many
+ * is not stopped; one that needs more is, and then there may be a full plan or none. Checked: 1, 6.
  */
 struct berth_first_reply {
     uint32_t trials;          /* the slots that were laid; the ceiling where the search was stopped; 0 where refused */
