@@ -125,8 +125,20 @@ fn long_chain() -> Case {
 
 /// Twelve calls of 32 slots, each one or two slots after the one before: every link is lifted and put.
 fn chain() -> Case {
-    let link = |c: usize| Rule::new(c, &[c, c + 1], (0..31).flat_map(|s| [vec![s, s + 1], vec![s, s + 2]]).filter(|row| row[1] < 32).collect());
-    Case { name: "chain", counts: vec![32; 12], rules: (0..11).map(link).collect(), measured: (0..11).collect(), rounds: 1000 }
+    let link = |c: usize| {
+        Rule::new(
+            c,
+            &[c, c + 1],
+            (0..31).flat_map(|s| [vec![s, s + 1], vec![s, s + 2]]).filter(|row| row[1] < 32).collect(),
+        )
+    };
+    Case {
+        name: "chain",
+        counts: vec![32; 12],
+        rules: (0..11).map(link).collect(),
+        measured: (0..11).collect(),
+        rounds: 1000,
+    }
 }
 
 /// The pairs of slots below n that pass.
@@ -148,7 +160,9 @@ fn everyday() -> Case {
 /// Twelve calls of ten slots: each goes before the next but one, neighbours lie apart, and each third call has slots of its own.
 fn busy_day() -> Case {
     let mut rules: Vec<Rule> = (0..10).map(|c| Rule::new(c, &[c, c + 2], pairs(10, |a, b| a < b))).collect();
-    rules.extend((0..11).map(|c| Rule::new(10 + c, &[c, c + 1], pairs(10, |a, b| a + 2 <= b || (b + 2 <= a && b + 5 > a)))));
+    rules.extend(
+        (0..11).map(|c| Rule::new(10 + c, &[c, c + 1], pairs(10, |a, b| a + 2 <= b || (b + 2 <= a && b + 5 > a)))),
+    );
     rules.extend((0..4).map(|k| Rule::new(21 + k, &[3 * k], (k..k + 5).map(|s| vec![s]).collect())));
     Case { name: "busy day", counts: vec![10; 12], measured: (0..rules.len()).collect(), rules, rounds: 1000 }
 }
@@ -241,7 +255,8 @@ impl Side for Ours {
     }
 
     fn shown(&self) -> [u32; 32] {
-        let shown: [u32; 32] = std::array::from_fn(|call| self.board.open_slots(call as u8).map_or(0, |open| open.mask));
+        let shown: [u32; 32] =
+            std::array::from_fn(|call| self.board.open_slots(call as u8).map_or(0, |open| open.mask));
         let counted = self.board.summaries().map(|figures| figures.open as u32);
         assert!(counted == shown.map(u32::count_ones), "the summary table has other open slots");
         shown
@@ -487,7 +502,9 @@ fn measure_cancellations(clock: u64) {
     println!("Nanoseconds per cancellation, the mean over the board's calls of each one's median; reading the clock, {clock} ns, is taken off.\n");
     println!("| {:12} | {:31} | {:>9} |", "board", "slots, per command", "library");
     println!("|--------------|---------------------------------|-----------|");
-    [busiest(), dense("dense", 24, 60), long_chain(), busy_day()].iter().for_each(|case| measure_cancellation(case, clock));
+    [busiest(), dense("dense", 24, 60), long_chain(), busy_day()]
+        .iter()
+        .for_each(|case| measure_cancellation(case, clock));
 }
 
 /// So many are timed in a row, since one of them takes about as long as reading the clock.
@@ -718,7 +735,16 @@ const OTHERS: [(&str, fn(u64)); 5] = [
 
 /// The boards of this name, or all where it is empty. A name that nothing has ends the program with the list of them.
 fn chosen(name: &str) -> Vec<Case> {
-    let mut cases = vec![busiest(), dense("dense", 24, 60), dense("overfull", 64, 20), many_strikes(), long_chain(), chain(), everyday(), busy_day()];
+    let mut cases = vec![
+        busiest(),
+        dense("dense", 24, 60),
+        dense("overfull", 64, 20),
+        many_strikes(),
+        long_chain(),
+        chain(),
+        everyday(),
+        busy_day(),
+    ];
     let names: Vec<&str> = cases.iter().map(|case| case.name).chain(OTHERS.map(|(name, _)| name)).collect();
     if !name.is_empty() && !names.contains(&name) {
         eprintln!("there is no board '{}'; there are: {}", name, names.join(", "));
