@@ -708,7 +708,7 @@ fn compare_refusals() {
     }
 }
 
-fn measure_plans(clock: u64) {
+fn measure_checks(clock: u64) {
     compare_refusals();
     println!("Nanoseconds per check, medians of {IN_A_ROW} plans in a row; reading the clock, {clock} ns, is taken off.\nA ratio above 1: the library is faster. The last three columns are millions of checks a second.\n");
     println!(
@@ -752,39 +752,14 @@ fn deep() -> Case {
 /// The ending of a search, its trials and the plan, or the number of a refusal.
 type Searched = Result<search::Answer, u8>;
 
-// The question as crates/berth exports it.
-#[repr(C)]
-struct FirstReply {
-    trials: u32,
-    number: u8,
-    ending: u8,
-    plan: [u8; berth::PLAN],
-}
-
-#[rustfmt::skip]
-extern "C" {
-    fn berth_first_plan(value: berth::Value, rows: *const u8, r: usize, killers: *const u8, k: usize, slots: *const u8, s: usize, ceiling: u32) -> FirstReply;
-}
-
 impl Ours {
     fn first_plan(&self, ceiling: u32) -> Searched {
-        let m = self.board.memory();
-        // SAFETY: each pointer is a slice's, with that slice's length, so it reaches as far. A question returns, reads only inside them and writes nothing.
-        let reply = unsafe {
-            berth_first_plan(
-                *m.value,
-                m.rows.as_ptr(),
-                m.rows.len(),
-                m.killers.as_ptr(),
-                m.killers.len(),
-                m.slots.as_ptr(),
-                m.slots.len(),
-                ceiling,
-            )
-        };
-        match reply.number {
-            0 => Ok((reply.ending, reply.trials, reply.plan)),
-            refusal => Err(refusal),
+        let blank = [berth::NONE; berth::PLAN];
+        match self.board.first_plan(ceiling) {
+            Ok(berth::FirstPlan::Found { plan, trials }) => Ok((search::FOUND, trials, plan)),
+            Ok(berth::FirstPlan::None { trials }) => Ok((search::NOTHING, trials, blank)),
+            Ok(berth::FirstPlan::Stopped { trials }) => Ok((search::STOPPED, trials, blank)),
+            Err(refusal) => Err(refusal.number()),
         }
     }
 }
@@ -879,14 +854,20 @@ fn measure_searches(clock: u64) {
     boards.iter().for_each(|case| measure_search(case, clock));
 }
 
+/// Plans that are checked, and plans that are searched for.
+fn measure_plans(clock: u64) {
+    measure_checks(clock);
+    println!();
+    measure_searches(clock);
+}
+
 /// What is measured besides the boards, by its name among theirs.
-const OTHERS: [(&str, fn(u64)); 6] = [
+const OTHERS: [(&str, fn(u64)); 5] = [
     ("gap rules", measure_gap_rules),
     ("marks", measure_marks),
     ("cancellations", measure_cancellations),
     ("small commands", measure_small_commands),
     ("plans", measure_plans),
-    ("searches", measure_searches),
 ];
 
 /// The boards of this name, or all where it is empty. A name that nothing has ends the program with the list of them.
