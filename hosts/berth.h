@@ -371,8 +371,8 @@ struct berth_plan_reply berth_check_plan(struct berth_value value, const uint8_t
 /*
  * The first full plan: a slot for each call that is not cancelled, so that berth_check_plan keeps it. Calls are laid in rising order, each with its open slots
  * in rising order. A slot that is laid is one trial. It stays if each rule in force that has a laid call, and whose other calls are laid or cancelled, has a row
- * that agrees with the plan in every column but those of cancelled calls; otherwise the next slot is tried, and a call with none left goes back to the call
- * before. So of all full plans it is the one with the lowest slot for call 0, then for call 1, and so on. Where every call is cancelled it is found with 0
+ * that agrees with the plan in every column but those of cancelled calls. Otherwise its call gets the next slot; where there is none, the call before gets its
+ * next. So of all full plans it is the one with the lowest slot for call 0, then for call 1, and so on. Where every call is cancelled it is found with 0
  * trials.
  *
  * The ceiling is the most trials that may be made, any number of 32 bits. It bounds the time, which can be minutes with the highest. A search that needs as many

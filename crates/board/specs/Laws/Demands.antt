@@ -31,7 +31,7 @@ use Rattle.model.specs.Questions.{boardConditions}
 use Rattle.plan_search.specs.declared.answer.FirstPlan.the-variants as searched
 use Rattle.plan_search.specs.declared.answer.PlanAnswer.{PlanAnswer}
 use Rattle.plan_search.specs.First.{boardTask, searchAll, trials, FoundFirst, FirstPromise}
-use Rattle.plan_search.specs.Laws.Exactly.{found-exactly, none-exactly, stopped-exactly, found-first}
+use Rattle.plan_search.specs.Laws.Exactly.{found-exactly, none-exactly, stopped-exactly, found-is-first}
 use Rattle.plan_search.specs.Laws.Checked.{found-kept}
 use Rattle.board.specs.Lists.{boardAfter}
 
@@ -159,7 +159,7 @@ module _ {first : List ℕ} (ms : List Member) (s : Whole) (after : After first 
 
     -- what is found is the first full plan, with the trials that it needs,
     pub plan-found-first : (n : ℕ) → given .answer ≡ searched.Found n → FoundFirst B ceiling (given .plan) n
-    plan-found-first = let r = runs-represent ms s after in found-first (run fresh ms) (r .0) (s .marked .state) (r .1 .state) passes ceiling given promise
+    plan-found-first = let r = runs-represent ms s after in found-is-first (run fresh ms) (r .0) (s .marked .state) (r .1 .state) passes ceiling given promise
 
     -- and whatever check keeps its promise says that it is kept
     pub plan-found-kept : (n : ℕ) → given .answer ≡ searched.Found n → (check : PlanCheck) → PlanPromise (s .marked .state) (given .plan) check → check ≡ plan.Kept

@@ -28,7 +28,7 @@ use Rattle.plan_model.specs.Laws.Kept.{kept-exactly}
 use Rattle.plan_search.specs.declared.answer.FirstPlan.the-variants as first
 use Rattle.plan_search.specs.declared.answer.PlanAnswer.{PlanAnswer}
 use Rattle.plan_search.specs.First.{firstNumber, FoundFirst, FirstPromise}
-use Rattle.plan_search.specs.Laws.Exactly.{found-first}
+use Rattle.plan_search.specs.Laws.Exactly.{found-is-first}
 
 -- THE BYTES OF A FULL PLAN pass 33, where those of calls that are not on the board are 255
 module _ (B : Board) (bytes : List ℕ) (full : FullPlan B (slotIn bytes)) (blank : (c : ℕ) → length (B .counts) ≤ c → slotIn bytes c ≡ noSlotGiven) where
@@ -60,7 +60,7 @@ module _ (L : Ledger) (shape : LedgerShape L) (s : State) (rep : Represents L s)
   not-refused = sym (promise .answered L shape rep .number) ∙ ap firstNumber is
 
   found-so : FoundFirst (L .board) ceiling (given .plan) n
-  found-so = found-first L shape s rep not-refused ceiling given promise n is
+  found-so = found-is-first L shape s rep not-refused ceiling given promise n is
 
   plan-passes : firstOf (planConditions L (lentOf s) (given .plan)) ≡ 0
   plan-passes =

@@ -112,8 +112,8 @@ module _ (L : Ledger) (shape : LedgerShape L) (s : State) (rep : Represents L s)
       go plan (first.Refused n) m = absurd m
 
   -- and what is found is the first full plan, with the trials that it needs
-  pub found-first : (n : ℕ) → given .answer ≡ first.Found n → FoundFirst (L .board) ceiling (given .plan) n
-  found-first n e = subst (λ (a : FirstPlan). FirstMeans (L .board) ceiling (given .plan) a) e (promise .answered L shape rep .means passes)
+  pub found-is-first : (n : ℕ) → given .answer ≡ first.Found n → FoundFirst (L .board) ceiling (given .plan) n
+  found-is-first n e = subst (λ (a : FirstPlan). FirstMeans (L .board) ceiling (given .plan) a) e (promise .answered L shape rep .means passes)
 
   -- "NONE" EXACTLY WHERE THERE IS NO FULL PLAN and the search finishes within the ceiling
   pub none-exactly : ((n : ℕ) × (given .answer ≡ first.Nothing n)) ↔ (NoFullPlan × (needed ≤ ceiling))
