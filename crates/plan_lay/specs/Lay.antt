@@ -1,14 +1,16 @@
 -- THE SEARCH BY THE TABLES: the task that they are, and its steps from a call and from a slot on.
 use mathlib.Core.Path.{_≡_}
 use mathlib.Core.Bool.{not, cond}
-use mathlib.Core.List.{List}
+use mathlib.Core.List.{List, []}
 use Prim.Native.Nat.{ℕ, suc, _+_, _-_, _<_, _≤_}
 use lib.ListN.{length, getD, set}
 use lib.Dec.{eqb, ltb}
 use Rattle.tables.specs.Masks.{bitOf}
 use Rattle.plan_model.specs.Plans.{planSize}
 use Rattle.plan_search.specs.Search.{Result, nothing, Task, tries, search}
-use Rattle.plan_search.specs.First.{noPlan, Ended, full, none, stopped, cut}
+use Rattle.plan_search.specs.First.{Ended, full, none, stopped, cut}
+use Rattle.layout.specs.Memory.{stateOfParts}
+use Rattle.plan_tables.specs.Lookup.{CallSlots, OpenMasks, CallTable}
 use Rattle.plan_tables.specs.Due.{DueRules}
 use Rattle.plan_tables.specs.Fit.{staysBy}
 use Rattle.plan_lay.specs.declared.first.Laid.{Laid}
@@ -16,13 +18,23 @@ use Rattle.plan_lay.specs.declared.lay.Ending.{Ending}
 use Rattle.plan_lay.specs.declared.lay.Ending.the-variants as ending
 
 -- THE TASK: the calls that have slots, the slots in each call's mask, and of the rules those that the call makes due
-abbrev pub tableTask : List ℕ → List ℕ → List ℕ → List ℕ → List ℕ → List ℕ → Task
-tableTask words lengths columns due opened calls =
+abbrev pub tableTask : List ℕ → List ℕ → List ℕ → List ℕ → Task
+tableTask words lengths columns calls =
     record {
-      lays = λ c. not (eqb (getD calls c 0) 0);
-      opens = λ c s. eqb (bitOf (getD opened c 0) s) 1;
-      stays = λ c plan. staysBy words lengths columns (getD due c 0) plan;
+      lays = λ c. not (eqb (getD calls (64 + c) 0) 0);
+      opens = λ c s. eqb (bitOf (getD calls (32 + c) 0) s) 1;
+      stays = λ c plan. staysBy words lengths columns (getD calls c 0) plan;
     }
+
+-- the table of the calls is that of these slot counts and slot bytes, by the rules' columns
+pub record CallsOf (counts slots columns calls : List ℕ) : Type 0 where
+  pub held : List ℕ
+  pub opened : List ℕ
+  pub due : List ℕ
+  pub has : CallSlots (stateOfParts counts [] [] [] [] [] slots) held
+  pub masks : OpenMasks slots opened
+  pub dues : DueRules held columns 64 due
+  pub table : CallTable due opened held 32 calls
 
 -- THE STEPS: the calls from c on; the slots of call c from s on; and what is behind slot s of call c
 unfoldable pub callsFrom : Task → ℕ → List ℕ → Result
@@ -34,10 +46,9 @@ triesFrom t c s plan = tries t (λ laid. callsFrom t (suc c) laid) c (32 - s) s 
 unfoldable pub behindSlot : Task → ℕ → ℕ → List ℕ → Result
 behindSlot t c s plan = cond (t .stays c (set plan c s)) (callsFrom t (c + 1) (set plan c s)) (nothing 0)
 
--- r is the first number of the mask from s on, or 32
+-- r is the first number of the mask from s on, or 32 and more
 pub record NextOpen (mask s r : ℕ) : Type 0 where
   pub from : s ≤ r
-  pub most : r ≤ 32
   pub closed : (i : ℕ) → s ≤ i → i < r → bitOf mask i ≡ 0
   pub here : r < 32 → bitOf mask r ≡ 1
 
@@ -75,9 +86,3 @@ pub record StepEnded (r : Result) (left rest : ℕ) (back plan : List ℕ) (e : 
 -- what the whole search ended with
 unfoldable pub endedOf : Laid → Ended
 endedOf r = endedWith (r .ending) (r .plan) (r .trials)
-
--- THE WHOLE SEARCH, from the first call on with none laid, by the due rules that belong to the columns
-pub record LaidBy (words lengths columns opened calls : List ℕ) (ceiling : ℕ) (r : Laid) : Type 0 where
-  pub due : List ℕ
-  pub dues : DueRules calls columns 64 due
-  pub ended : endedOf r ≡ cut ceiling (callsFrom (tableTask words lengths columns due opened calls) 0 noPlan)

@@ -10,6 +10,7 @@ use plan_search::answer::PlanAnswer;
 use plan_tables::due::due_rules;
 use plan_tables::lookup::WORDS;
 use plan_tables::lookup::call_slots;
+use plan_tables::lookup::call_table;
 use plan_tables::lookup::open_masks;
 use plan_tables::lookup::row_words;
 use plan_tables::lookup::rule_columns;
@@ -19,9 +20,9 @@ ghost use lib.ListN.{length};
 ghost use Rattle.layout.specs.Sizes.{slotsLength, rowsLength};
 ghost use Rattle.model.specs.Refusals.{firstOf};
 ghost use Rattle.model.specs.Questions.{boardChecks};
-ghost use Rattle.plan_search.specs.First.{memoryTask, searchAll, cut, endedAnswer};
-ghost use Rattle.plan_lay.specs.Lay.{endedOf, LaidBy};
-ghost use Rattle.plan_lay.specs.Parts.{lentParts, planParts};
+ghost use Rattle.plan_search.specs.First.{noPlan, memoryTask, searchAll, cut, endedAnswer};
+ghost use Rattle.plan_lay.specs.Lay.{callsFrom, endedOf, CallsOf};
+ghost use Rattle.plan_lay.specs.Parts.{lentParts, planParts, lentTask};
 
 // What a search ended with: the plan, where one is found, and the trials.
 pub struct Laid {
@@ -54,32 +55,31 @@ fn lay_all(
     words: &[u32; WORDS],
     lengths: &[u8; 64],
     columns: &[u8; 256],
-    opened: &[u32; 32],
-    calls: &[u8; 32],
+    calls: &[u64; 96],
     ceiling: u32,
 ) -> Laid
-    ensures { λ r. ⌜ LaidBy
-        (now (words .entry)) (now (lengths .entry)) (now (columns .entry)) (now (opened .entry)) (now (calls .entry)) ceiling r ⌝ }
+    ensures { λ r. ⌜ endedOf r
+        ≡ cut ceiling (callsFrom (lentTask (words .entry) (lengths .entry) (columns .entry) (calls .entry)) 0 noPlan) ⌝ }
 {
-    let due = due_rules(calls, columns);
     let mut plan = [255u8; 32];
     let mut left = (ceiling as u64) + 1;
-    let ending = lay_calls(
-        words,
-        lengths,
-        columns,
-        &due,
-        opened,
-        calls,
-        &mut plan,
-        &mut left,
-        0,
-    );
+    let ending = lay_calls(words, lengths, columns, calls, &mut plan, &mut left, 0);
     Laid {
         plan,
         ending,
         trials: trials_made(ceiling, left),
     }
+}
+
+// What is looked up of the calls, off the value and the bytes.
+fn calls_of(counts: &[u8; 32], slots: &[u8], columns: &[u8; 256]) -> [u64; 96]
+    requires { ⌜ length (now slots) ≡ slotsLength ⌝ }
+    ensures { λ r. ⌜ CallsOf (now (counts .entry)) (now (slots .entry)) (now (columns .entry)) r ⌝ }
+{
+    let held = call_slots(counts, slots);
+    let opened = open_masks(slots);
+    let due = due_rules(&held, columns);
+    call_table(&due, &opened, &held)
 }
 
 // The same off the value and the bytes.
@@ -98,10 +98,9 @@ pub fn lay_plan(
         ≡ cut ceiling (searchAll (memoryTask (planParts (counts .entry) (arity .entry) (scope .entry) (lengths .entry) (rows .entry) (slots .entry)))) ⌝ }
 {
     let columns = rule_columns(arity, scope, slots);
-    let calls = call_slots(counts, slots);
-    let opened = open_masks(slots);
+    let calls = calls_of(counts, slots, &columns);
     let words = row_words(rows, lengths, &columns);
-    lay_all(&words, lengths, &columns, &opened, &calls, ceiling)
+    lay_all(&words, lengths, &columns, &calls, ceiling)
 }
 
 // The answer that a search ends with.

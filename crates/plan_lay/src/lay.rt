@@ -20,19 +20,16 @@ pub enum Ending {
     Stopped,
 }
 
-// The first slot of the mask from `slot` on; 32 where there is none.
-fn next_open(mask: u32, slot: usize) -> usize
+// The first number of the mask from `slot` on; 32 or more where there is no slot.
+fn next_open(mask: u64, slot: usize) -> usize
     requires { ⌜ slot ≤ 32 ⌝ }
     ensures { λ r. ⌜ NextOpen mask slot r ⌝ }
 {
-    if 32 <= slot {
-        return 32;
-    }
-    let above = mask >> (slot as u32);
+    let above = mask >> (slot as u64);
     if above == 0 {
         return 32;
     }
-    slot + (u32::trailing_zeros(above) as usize)
+    slot + (u64::trailing_zeros(above) as usize)
 }
 
 // Lays the calls from `call` on. Where no slot of it is left, the plan is as it was.
@@ -40,9 +37,7 @@ pub fn lay_calls(
     words: &[u32; WORDS],
     lengths: &[u8; 64],
     columns: &[u8; 256],
-    due: &[u64; 32],
-    opened: &[u32; 32],
-    calls: &[u8; 32],
+    calls: &[u64; 96],
     plan: &mut [u8; 32],
     left: &mut u64,
     call: usize,
@@ -51,37 +46,16 @@ pub fn lay_calls(
     requires { ⌜ 0 < now left ⌝ }
     requires { ⌜ call ≤ 32 ⌝ }
     ensures { λ r. ⌜ StepEnded
-        (callsFrom (lentTask (words .entry) (lengths .entry) (columns .entry) (due .entry) (opened .entry) (calls .entry)) call (now (plan .entry)))
+        (callsFrom (lentTask (words .entry) (lengths .entry) (columns .entry) (calls .entry)) call (now (plan .entry)))
         (now (left .entry)) (now (left .exit)) (now (plan .entry)) (now (plan .exit)) r ⌝ }
 {
     if 32 <= call {
         return Ending::Found;
     }
-    if calls[call] == 0 {
-        return lay_calls(
-            words,
-            lengths,
-            columns,
-            due,
-            opened,
-            calls,
-            plan,
-            left,
-            call + 1,
-        );
+    if calls[64 + call] == 0 {
+        return lay_calls(words, lengths, columns, calls, plan, left, call + 1);
     }
-    let s = lay_slots(
-        words,
-        lengths,
-        columns,
-        due,
-        opened,
-        calls,
-        plan,
-        left,
-        call,
-        0,
-    );
+    let s = lay_slots(words, lengths, columns, calls, plan, left, call, 0);
     if 32 <= s {
         return Ending::Nothing;
     }
@@ -91,15 +65,13 @@ pub fn lay_calls(
     Ending::Found
 }
 
-// Lays the open slots of a call from `slot` on, until one comes to a full plan or to the ceiling, and returns that slot. Where none
-// does the call has no slot in the plan, and it returns 32.
+// Lays the open slots of a call from `slot` on, until one comes to a full plan or to the ceiling, and returns that slot. Where none does, the call has no slot in the
+// plan, and it returns 32.
 fn lay_slots(
     words: &[u32; WORDS],
     lengths: &[u8; 64],
     columns: &[u8; 256],
-    due: &[u64; 32],
-    opened: &[u32; 32],
-    calls: &[u8; 32],
+    calls: &[u64; 96],
     plan: &mut [u8; 32],
     left: &mut u64,
     call: usize,
@@ -110,41 +82,19 @@ fn lay_slots(
     requires { ⌜ call < 32 ⌝ }
     requires { ⌜ slot ≤ 32 ⌝ }
     ensures { λ r. ⌜ StepEnded
-        (triesFrom (lentTask (words .entry) (lengths .entry) (columns .entry) (due .entry) (opened .entry) (calls .entry)) call slot (now (plan .entry)))
+        (triesFrom (lentTask (words .entry) (lengths .entry) (columns .entry) (calls .entry)) call slot (now (plan .entry)))
         (now (left .entry)) (now (left .exit)) (set (now (plan .entry)) call noSlotGiven) (now (plan .exit)) (endingAt r (now (left .exit))) ⌝ }
 {
-    let s = next_open(opened[call], slot);
+    let s = next_open(calls[32 + call], slot);
     if 32 <= s {
         plan[call] = 255;
         return 32;
     }
-    let ending = lay_slot(
-        words,
-        lengths,
-        columns,
-        due,
-        opened,
-        calls,
-        plan,
-        left,
-        call,
-        s,
-    );
+    let ending = lay_slot(words, lengths, columns, calls, plan, left, call, s);
     match ending {
         Ending::Found => s,
         Ending::Stopped => s,
-        Ending::Nothing => lay_slots(
-            words,
-            lengths,
-            columns,
-            due,
-            opened,
-            calls,
-            plan,
-            left,
-            call,
-            s + 1,
-        ),
+        Ending::Nothing => lay_slots(words, lengths, columns, calls, plan, left, call, s + 1),
     }
 }
 
@@ -153,9 +103,7 @@ fn lay_slot(
     words: &[u32; WORDS],
     lengths: &[u8; 64],
     columns: &[u8; 256],
-    due: &[u64; 32],
-    opened: &[u32; 32],
-    calls: &[u8; 32],
+    calls: &[u64; 96],
     plan: &mut [u8; 32],
     left: &mut u64,
     call: usize,
@@ -166,7 +114,7 @@ fn lay_slot(
     requires { ⌜ call < 32 ⌝ }
     requires { ⌜ slot < 32 ⌝ }
     ensures { λ r. ⌜ StepEnded
-        (after 1 (behindSlot (lentTask (words .entry) (lengths .entry) (columns .entry) (due .entry) (opened .entry) (calls .entry)) call slot (now (plan .entry))))
+        (after 1 (behindSlot (lentTask (words .entry) (lengths .entry) (columns .entry) (calls .entry)) call slot (now (plan .entry))))
         (now (left .entry)) (now (left .exit)) (set (now (plan .entry)) call slot) (now (plan .exit)) r ⌝ }
 {
     *left = *left - 1;
@@ -174,18 +122,8 @@ fn lay_slot(
         return Ending::Stopped;
     }
     plan[call] = slot as u8;
-    if !rules_fit(words, lengths, columns, plan, due[call]) {
+    if !rules_fit(words, lengths, columns, plan, calls[call]) {
         return Ending::Nothing;
     }
-    lay_calls(
-        words,
-        lengths,
-        columns,
-        due,
-        opened,
-        calls,
-        plan,
-        left,
-        call + 1,
-    )
+    lay_calls(words, lengths, columns, calls, plan, left, call + 1)
 }

@@ -38,6 +38,13 @@ maskBy columns p =
     maskByte (getD columns (4 * p) 0) + 256 * maskByte (getD columns (4 * p + 1) 0) + 65536 * maskByte (getD columns (4 * p + 2) 0)
     + 16777216 * maskByte (getD columns (4 * p + 3) 0)
 
+-- WHAT IS LOOKED UP OF EACH CALL, of the first n, in one table: the rules that it makes due, its open slots, and its slots in a plan
+pub record CallTable (due opened held : List ℕ) (n : ℕ) (table : List ℕ) : Type 0 where
+  pub long : length table ≡ 96
+  pub dues : (c : ℕ) → c < n → getD table c 0 ≡ getD due c 0
+  pub opens : (c : ℕ) → c < n → getD table (32 + c) 0 ≡ getD opened c 0
+  pub lays : (c : ℕ) → c < n → getD table (64 + c) 0 ≡ getD held c 0
+
 -- A WORD FOR EACH ROW that there can be, 64 to a rule
 abbrev pub wordsLength : ℕ
 wordsLength = 4096

@@ -1,6 +1,7 @@
 // What the search looks up at each slot, made once off the value and the bytes: which calls are to be laid and their open slots, the calls of every rule's columns,
 // and the rows as words.
 use layout::places::cap;
+use masks::columns::wide;
 use masks::columns::word;
 use masks::slots::slots_with;
 use plan_fit::calls::slots_for;
@@ -11,7 +12,7 @@ ghost use Prim.Native.Nat.{_<_, _≤_};
 ghost use lib.ListN.{length};
 ghost use Rattle.layout.specs.Sizes.{slotsLength, rowsLength};
 ghost use Rattle.plan_fit.specs.Parts.{callParts};
-ghost use Rattle.plan_tables.specs.Lookup.{CallSlots, OpenMasks, RuleColumns, columnsAt, wordsLength, WordsMade, RowWords};
+ghost use Rattle.plan_tables.specs.Lookup.{CallSlots, OpenMasks, RuleColumns, columnsAt, CallTable, wordsLength, WordsMade, RowWords};
 
 // A word for each row that there can be.
 pub const WORDS: usize = 4096;
@@ -67,6 +68,28 @@ pub fn columns_at(columns: &[u8; 256], p: usize) -> [u8; 4]
         columns[4 * p + 2],
         columns[4 * p + 3],
     ]
+}
+
+// A mask in a word of 64 bits.
+fn long(mask: u32) -> u64
+    ensures { λ r. ⌜ r ≡ mask ⌝ }
+{
+    mask as u64
+}
+
+// What is looked up of each call, in one table: the rules that it makes due at its number, its open slots 32 on, and its slots in a plan 64 on.
+pub fn call_table(due: &[u64; 32], opened: &[u32; 32], held: &[u8; 32]) -> [u64; 96]
+    ensures { λ r. ⌜ CallTable (now (due .entry)) (now (opened .entry)) (now (held .entry)) 32 r ⌝ }
+{
+    let mut table = [0u64; 96];
+    let mut c = 0;
+    while c < 32 {
+        table[c] = due[c];
+        table[32 + c] = long(opened[c]);
+        table[64 + c] = long(wide(held[c]));
+        c += 1;
+    }
+    table
 }
 
 // The rows of rule p as words, in the columns of the mask.

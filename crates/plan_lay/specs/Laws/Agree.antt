@@ -29,9 +29,9 @@ use Rattle.plan_search.specs.First.{noPlan, memoryTask, searchAll}
 use Rattle.plan_search.specs.Laws.Search.{search-same}
 use Rattle.plan_search.specs.Laws.Stays.{not-laid, slot-laid}
 use Rattle.plan_search.specs.Laws.Full.{no-slot}
-use Rattle.plan_tables.specs.Lookup.{CallSlots, OpenMasks, RuleColumns, columnsAt, maskBy, RowWords}
+use Rattle.plan_tables.specs.Lookup.{CallSlots, RuleColumns, columnsAt, maskBy, RowWords}
 use Rattle.plan_tables.specs.Due.{ruleStage, DueRules}
-use Rattle.plan_lay.specs.Lay.{tableTask, callsFrom}
+use Rattle.plan_lay.specs.Lay.{tableTask, CallsOf, callsFrom}
 use Rattle.plan_tables.specs.Fit.{wantedBy, fittedBy, staysBy}
 use Rattle.plan_tables.specs.Laws.Lookup.{columns-of}
 use Rattle.plan_tables.specs.Laws.Last.{LastCall, lays-agree, stage→last, last→stage}
@@ -273,20 +273,24 @@ module _ (s : State) where
         stays = st;
       }
 
-  module _ (columns calls opened words due : List ℕ) (is-columns : RuleColumns (s .value .heads .arity) (s .value .heads .scope) (s .slots) columns)
-      (is-calls : CallSlots s calls) (is-opened : OpenMasks (s .slots) opened) (is-words : RowWords (s .rows) (s .value .heads .lengths) columns 64 words) (is-due : DueRules calls columns 64 due)
-      (bytes : (j : ℕ) → getD (s .rows) j 0 < 256) where
-    opens-agree : (c t : ℕ) → c < 32 → t < 32 → open? (s .slots) c t ≡ eqb (bitOf (getD opened c 0) t) 1
-    opens-agree c t hc ht =
-        same-test (open? (s .slots) c t) (eqb (bitOf (getD opened c 0) t) 1)
-        (λ x. →eqb (bitOf (getD opened c 0) t) 1 (is-opened .each c hc .has t ht (eqb→eq (causeOf (s .slots) c t) 255 x)))
-        (λ x. →eqb (causeOf (s .slots) c t) 255 (is-opened .each c hc .only t (eqb→eq (bitOf (getD opened c 0) t) 1 x) .1))
+  module _ (columns calls words : List ℕ) (is-columns : RuleColumns (s .value .heads .arity) (s .value .heads .scope) (s .slots) columns) (of : CallsOf (s .value .heads .counts) (s .slots) columns calls)
+      (is-words : RowWords (s .rows) (s .value .heads .lengths) columns 64 words) (bytes : (j : ℕ) → getD (s .rows) j 0 < 256) where
+    abbrev table : Task
+    table = tableTask words (s .value .heads .lengths) columns calls
 
-    pub search-agrees : callsFrom (tableTask words (s .value .heads .lengths) columns due opened calls) 0 noPlan ≡ searchAll (memoryTask s)
+    opens-agree : (c t : ℕ) → c < 32 → t < 32 → open? (s .slots) c t ≡ eqb (bitOf (getD (of .opened) c 0) t) 1
+    opens-agree c t hc ht =
+        same-test (open? (s .slots) c t) (eqb (bitOf (getD (of .opened) c 0) t) 1)
+        (λ x. →eqb (bitOf (getD (of .opened) c 0) t) 1 (of .masks .each c hc .has t ht (eqb→eq (causeOf (s .slots) c t) 255 x)))
+        (λ x. →eqb (causeOf (s .slots) c t) 255 (of .masks .each c hc .only t (eqb→eq (bitOf (getD (of .opened) c 0) t) 1 x) .1))
+
+    pub search-agrees : callsFrom table 0 noPlan ≡ searchAll (memoryTask s)
     unfolding callsFrom searchAll
     search-agrees =
-        sym (search-same (memoryTask s) (tableTask words (s .value .heads .lengths) columns due opened calls) (Stands s) stands-skip
+        sym (search-same (memoryTask s) table (Stands s) stands-skip
         (λ c v plan h hv i l o st. stands-lay c v plan h hv i l (→T (stays? (rulesIn s) (set plan c v)) st))
-        (λ c h. sym (lays-agree s columns calls is-columns is-calls c h)) opens-agree
-        (λ c v plan h hv i l o. sym (stays-agree s columns calls words due is-columns is-calls is-words is-due bytes c v plan h hv i l))
+        (λ c h. rw (of .table .lays c h) (sym (lays-agree s columns (of .held) is-columns (of .has) c h)))
+        (λ c t h ht. rw (of .table .opens c h) (opens-agree c t h ht))
+        (λ c v plan h hv i l o.
+        rw (of .table .dues c h) (sym (stays-agree s columns (of .held) words (of .due) is-columns (of .has) is-words (of .dues) bytes c v plan h hv i l)))
         32 0 noPlan refl stands-first)

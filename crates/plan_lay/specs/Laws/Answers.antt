@@ -14,14 +14,14 @@ use Rattle.model.specs.Numbers as refused
 use Rattle.model.specs.Laws.Refusals.{none-holds, refused-by}
 use Rattle.model.specs.Laws.Shapes.{lent-sizes}
 use Rattle.plan_search.specs.declared.answer.FirstPlan.the-variants as first
+use Rattle.plan_search.specs.Search.{Task}
 use Rattle.plan_search.specs.First.{noPlan, memoryTask, searchAll, Ended, cut, endedAnswer, firstBy, FirstPromise}
 use Rattle.plan_search.specs.Laws.First.{first-promise}
 use Rattle.plan_lay.specs.declared.first.Laid.{Laid}
 use Rattle.plan_lay.specs.declared.lay.Ending.{Ending}
 use Rattle.plan_lay.specs.declared.lay.Ending.the-variants as ending
-use Rattle.plan_tables.specs.Lookup.{CallSlots, OpenMasks, RuleColumns, RowWords}
-use Rattle.plan_tables.specs.Due.{DueRules}
-use Rattle.plan_lay.specs.Lay.{tableTask, callsFrom, endedWith, Rest, StepEnded, endedOf, LaidBy}
+use Rattle.plan_tables.specs.Lookup.{RuleColumns, RowWords}
+use Rattle.plan_lay.specs.Lay.{tableTask, CallsOf, callsFrom, endedWith, Rest, StepEnded, endedOf}
 use Rattle.plan_lay.specs.Laws.Agree.{search-agrees}
 
 -- FROM THE FIRST CALL ON. The trials that were made are those of the end, but for one that was stopped, which has none
@@ -30,23 +30,16 @@ made ending.Found plan ceiling left h = let z : min (ceiling + 1 - left) ceiling
 made ending.Nothing plan ceiling left h = let z : min (ceiling + 1 - left) ceiling ≡ ceiling + 1 - left = omega arith in rw z refl
 made ending.Stopped plan ceiling left h = refl
 
-pub laid-by : (words lengths columns opened calls : List ℕ) {due : List ℕ} (ceiling : ℕ) {left n : ℕ} {back plan : List ℕ} {e : Ending} → DueRules calls columns 64 due
-    → StepEnded (callsFrom (tableTask words lengths columns due opened calls) 0 noPlan) (ceiling + 1) left back plan e
-    → n ≡ min (ceiling + 1 - left) ceiling → LaidBy words lengths columns opened calls ceiling (record { plan = plan; ending = e; trials = n })
+pub all-laid : (t : Task) (ceiling : ℕ) {left n : ℕ} {back plan : List ℕ} {e : Ending} → StepEnded (callsFrom t 0 noPlan) (ceiling + 1) left back plan e
+    → n ≡ min (ceiling + 1 - left) ceiling → endedOf (record { plan = plan; ending = e; trials = n }) ≡ cut ceiling (callsFrom t 0 noPlan)
 unfolding endedOf
-laid-by words lengths columns opened calls {due} ceiling {left} {n} {back} {plan} {e} dues x is =
-    let z : ceiling + 1 - 1 ≡ ceiling = omega arith in
-    record {
-      due = due;
-      dues = dues;
-      ended = ap (endedWith e plan) is ∙ made e plan ceiling left (x .remains) ∙ (rw z at (x .ended));
-    }
+all-laid t ceiling {left} {n} {back} {plan} {e} x is =
+    let z : ceiling + 1 - 1 ≡ ceiling = omega arith in ap (endedWith e plan) is ∙ made e plan ceiling left (x .remains) ∙ (rw z at (x .ended))
 
-pub laid-plan : (s : State) {words columns opened calls : List ℕ} (ceiling : ℕ) (r : Laid) → RuleColumns (s .value .heads .arity) (s .value .heads .scope) (s .slots) columns
-    → CallSlots s calls → OpenMasks (s .slots) opened → RowWords (s .rows) (s .value .heads .lengths) columns 64 words → ((j : ℕ) → getD (s .rows) j 0 < 256)
-    → LaidBy words (s .value .heads .lengths) columns opened calls ceiling r → endedOf r ≡ cut ceiling (searchAll (memoryTask s))
-laid-plan s {words} {columns} {opened} {calls} ceiling r is-columns is-calls is-opened is-words bytes by =
-    by .ended ∙ ap (cut ceiling) (search-agrees s columns calls opened words (by .due) is-columns is-calls is-opened is-words (by .dues) bytes)
+pub laid-plan : (s : State) {words columns calls : List ℕ} (ceiling : ℕ) (r : Laid) → RuleColumns (s .value .heads .arity) (s .value .heads .scope) (s .slots) columns
+    → CallsOf (s .value .heads .counts) (s .slots) columns calls → RowWords (s .rows) (s .value .heads .lengths) columns 64 words → ((j : ℕ) → getD (s .rows) j 0 < 256)
+    → endedOf r ≡ cut ceiling (callsFrom (tableTask words (s .value .heads .lengths) columns calls) 0 noPlan) → endedOf r ≡ cut ceiling (searchAll (memoryTask s))
+laid-plan s {words} {columns} {calls} ceiling r is-columns is-calls is-words bytes e = e ∙ ap (cut ceiling) (search-agrees s columns calls words is-columns is-calls is-words bytes)
 
 -- THE ANSWER, by how the search ended
 module _ (r : Laid) (ceiling : ℕ) where

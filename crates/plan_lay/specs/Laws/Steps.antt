@@ -32,7 +32,7 @@ below-lowest (suc k) m i h = go i (m % 2) refl h (λ j l. below-lowest k (m / 2)
     go (suc i) zero e h ih = ih i (omega arith)
     go i (suc d) e h ih = absurd (omega arith)
 
-module _ (mask s : ℕ) (small : mask < 2 ^ 32) where
+module _ (mask s : ℕ) (small : mask < 2 ^ 64) where
   shifted : (i : ℕ) → s ≤ i → bitOf mask i ≡ bitOf (mask / 2 ^ s) (i - s)
   shifted i h = let e : s + (i - s) ≡ i = omega arith in sym (bit-above mask s (i - s) ∙ ap (bitOf mask) e)
 
@@ -40,21 +40,17 @@ module _ (mask s : ℕ) (small : mask < 2 ^ 32) where
   next-none le z =
       record {
         from = le;
-        most = omega arith;
         closed = λ i h l. shifted i h ∙ ap (λ (m : ℕ). bitOf m (i - s)) z ∙ bit-zero (i - s);
         here = λ h. absurd (omega arith);
       }
 
-  pub next-found : mask / 2 ^ s ≢ 0 → mask / 2 ^ s < 2 ^ 32 → NextOpen mask s (s + trailingZeros 32 (mask / 2 ^ s))
+  pub next-found : mask / 2 ^ s ≢ 0 → mask / 2 ^ s < 2 ^ 64 → NextOpen mask s (s + trailingZeros 64 (mask / 2 ^ s))
   next-found n le =
-      let low = lowest 32 (mask / 2 ^ s) le (omega arith) in
-      let here : bitOf mask (s + trailingZeros 32 (mask / 2 ^ s)) ≡ 1 = sym (bit-above mask s (trailingZeros 32 (mask / 2 ^ s))) ∙ low .here in
-      let lt = has-below 32 mask (s + trailingZeros 32 (mask / 2 ^ s)) small here in
+      let low = lowest 64 (mask / 2 ^ s) le (omega arith) in
       record {
         from = omega arith;
-        most = omega arith;
-        closed = λ i h l. shifted i h ∙ below-lowest 32 (mask / 2 ^ s) (i - s) (omega arith);
-        here = λ h. here;
+        closed = λ i h l. shifted i h ∙ below-lowest 64 (mask / 2 ^ s) (i - s) (omega arith);
+        here = λ h. sym (bit-above mask s (trailingZeros 64 (mask / 2 ^ s))) ∙ low .here;
       }
 
 -- THE CALLS FROM c ON, and the slots from s on
@@ -151,19 +147,19 @@ module _ (t : Task) (left : ℕ) (plan : List ℕ) (c : ℕ) (pos : 0 < left) wh
 
   -- the slots: none is left, what is behind one ends the search, or lets the next be tried
   module _ {mask slot s : ℕ} (opens : (i : ℕ) → t .opens c i ≡ eqb (bitOf mask i) 1) (next : NextOpen mask slot s) where
-    passed : triesFrom t c slot plan ≡ triesFrom t c s plan
-    passed =
-        slots-pass t plan c (s - slot) slot s (omega (arith, next .from)) (next .most)
-        (λ i h l. opens i ∙ ne-eqb (bitOf mask i) 1 (λ e. let z = next .closed i h l in omega arith))
+    passed : (r : ℕ) → slot ≤ r → r ≤ s → r ≤ 32 → triesFrom t c slot plan ≡ triesFrom t c r plan
+    passed r from most last =
+        slots-pass t plan c (r - slot) slot r (omega arith) last
+        (λ i h l. opens i ∙ ne-eqb (bitOf mask i) 1 (λ e. let z = next .closed i h (omega arith) in omega arith))
 
     opened : s < 32 → triesFrom t c slot plan ≡ after 1 (orNext (behindSlot t c s plan) (triesFrom t c (s + 1) plan))
-    opened h = passed ∙ slots-open t plan c s h (opens s ∙ eq-eqb (bitOf mask s) 1 (next .here h))
+    opened h = passed s (next .from) (omega arith) (omega arith) ∙ slots-open t plan c s h (opens s ∙ eq-eqb (bitOf mask s) 1 (next .here h))
 
-    pub slots-done : 32 ≤ s → Clear (c + 1) plan → StepEnded (triesFrom t c slot plan) left left (set plan c noSlotGiven) (set plan c noSlotGiven) (endingAt 32 left)
-    slots-done h clear =
+    pub slots-done : slot ≤ 32 → 32 ≤ s → Clear (c + 1) plan → StepEnded (triesFrom t c slot plan) left left (set plan c noSlotGiven) (set plan c noSlotGiven) (endingAt 32 left)
+    slots-done le h clear =
         rw (at-none {s = 32} left (omega arith))
         (record {
-          ended = rw none-made (sym (ap (cut (left - 1)) (passed ∙ slots-end t plan c s h) ∙ rw (le-leb 0 (left - 1) (omega arith)) refl));
+          ended = rw none-made (sym (ap (cut (left - 1)) (passed 32 le h (omega arith) ∙ slots-end t plan c 32 (omega arith)) ∙ rw (le-leb 0 (left - 1) (omega arith)) refl));
           fewer = omega arith;
           remains = pos;
           size = length-set plan c noSlotGiven ∙ clear .size;

@@ -12,7 +12,7 @@ use Rattle.layout.specs.Places.{rowStart, rowsOf}
 use Rattle.masks.specs.Columns.{wordAt}
 use Rattle.masks.specs.Laws.Columns.{four}
 use Rattle.plan_fit.specs.Words.{columnCall, ColumnCalls, maskByte, IsWord}
-use Rattle.plan_tables.specs.Lookup.{Entries, RuleColumns, columnsAt, wordsLength, WordsMade, RowWords}
+use Rattle.plan_tables.specs.Lookup.{Entries, RuleColumns, columnsAt, CallTable, wordsLength, WordsMade, RowWords}
 
 module _ (P : ℕ → ℕ → Type 0) (size : ℕ) where
   pub entries-none : (v : ℕ) → Entries P size 0 (replicate size v)
@@ -46,6 +46,47 @@ module _ (arity scope slots columns : List ℕ) (made : RuleColumns arity scope 
         each = four (λ k. getD (columnsAt columns p) k 0 ≡ columnCall arity scope slots p k) (rw first at (column-at 0 (omega arith))) (column-at 1 (omega arith))
             (column-at 2 (omega arith)) (column-at 3 (omega arith));
       }
+
+-- THE TABLE OF THE CALLS, call by call
+module _ (due opened held : List ℕ) where
+  pub table-none : (v : ℕ) → CallTable due opened held 0 (replicate 96 v)
+  table-none v = record { long = length-replicate 96 v; dues = λ c h. absurd (omega arith); opens = λ c h. absurd (omega arith); lays = λ c h. absurd (omega arith) }
+
+  module _ {n a b d : ℕ} {l : List ℕ} (x : CallTable due opened held n l) (h : n < 32) (is-due : a ≡ getD due n 0) (is-open : b ≡ getD opened n 0)
+      (is-held : d ≡ getD held n 0) where
+    first : List ℕ
+    first = set l n a
+
+    second : List ℕ
+    second = set first (32 + n) b
+
+    sizes : (length first ≡ 96) × (length second ≡ 96)
+    unfolding second first
+    sizes = (length-set l n a ∙ x .long, length-set (set l n a) (32 + n) b ∙ length-set l n a ∙ x .long)
+
+    stays : (j : ℕ) → (j ≡ n → ⊥) → (j ≡ 32 + n → ⊥) → (j ≡ 64 + n → ⊥) → getD (set second (64 + n) d) j 0 ≡ getD l j 0
+    unfolding second first
+    stays j p q r = getD-set-other second (64 + n) j d 0 r ∙ getD-set-other first (32 + n) j b 0 q ∙ getD-set-other l n j a 0 p
+
+    pub table-more : CallTable due opened held (n + 1) (set (set (set l n a) (32 + n) b) (64 + n) d)
+    unfolding second first
+    table-more =
+        record {
+          long = length-set second (64 + n) d ∙ sizes .1;
+          dues = λ c lt.
+              ⊎-elim
+              (λ (e : c ≡ n).
+              rw e
+              (getD-set-other second (64 + n) n d 0 (λ z. omega arith) ∙ getD-set-other first (32 + n) n b 0 (λ z. omega arith)
+              ∙ getD-set-same l n a 0 (rw (x .long) (omega arith)) ∙ is-due))
+              (λ ne. stays c ne (λ z. omega arith) (λ z. omega arith) ∙ x .dues c (omega (arith, ne))) (eq-or-ne c n);
+          opens = λ c lt.
+              ⊎-elim (λ (e : c ≡ n). rw e (getD-set-other second (64 + n) (32 + n) d 0 (λ z. omega arith) ∙ getD-set-same first (32 + n) b 0 (rw (sizes .0) (omega arith)) ∙ is-open))
+              (λ ne. stays (32 + c) (λ z. omega arith) (λ z. ne (omega arith)) (λ z. omega arith) ∙ x .opens c (omega (arith, ne))) (eq-or-ne c n);
+          lays = λ c lt.
+              ⊎-elim (λ (e : c ≡ n). rw e (getD-set-same second (64 + n) d 0 (rw (sizes .1) (omega arith)) ∙ is-held))
+              (λ ne. stays (64 + c) (λ z. omega arith) (λ z. omega arith) (λ z. ne (omega arith)) ∙ x .lays c (omega (arith, ne))) (eq-or-ne c n);
+        }
 
 -- THE WORDS OF ONE RULE, row by row
 module _ (rows : List ℕ) (p mask : ℕ) where

@@ -23,34 +23,34 @@ use Rattle.plan_tables.proofs.fit.rules_fit.Reads as rules-fit-reads
 use Rattle.plan_lay.proofs.lay.+lay_calls+lay_slot+lay_slots.{statement}
 use Rattle.plan_lay.proofs.lay.+lay_calls+lay_slot+lay_slots.Tie.{close}
 
-abbrev μ-lay-calls : Measures 8 lay-calls-kinds.ps ℕ
-μ-lay-calls κs a = (33 - a .1 .1 .1 .1 .1 .1 .1 .1 .0) * 80
+abbrev μ-lay-calls : Measures 6 lay-calls-kinds.ps ℕ
+μ-lay-calls κs a = (33 - a .1 .1 .1 .1 .1 .1 .0) * 80
 
-abbrev μ-lay-slot : Measures 8 lay-slot-kinds.ps ℕ
-μ-lay-slot κs a = (32 - a .1 .1 .1 .1 .1 .1 .1 .1 .0) * 80 + (39 - a .1 .1 .1 .1 .1 .1 .1 .1 .1 .0) * 2
+abbrev μ-lay-slot : Measures 6 lay-slot-kinds.ps ℕ
+μ-lay-slot κs a = (32 - a .1 .1 .1 .1 .1 .1 .0) * 80 + (39 - a .1 .1 .1 .1 .1 .1 .1 .0) * 2
 
-abbrev μ-lay-slots : Measures 8 lay-slots-kinds.ps ℕ
-μ-lay-slots κs a = (32 - a .1 .1 .1 .1 .1 .1 .1 .1 .0) * 80 + (39 - a .1 .1 .1 .1 .1 .1 .1 .1 .1 .0) * 2 + 1
+abbrev μ-lay-slots : Measures 6 lay-slots-kinds.ps ℕ
+μ-lay-slots κs a = (32 - a .1 .1 .1 .1 .1 .1 .0) * 80 + (39 - a .1 .1 .1 .1 .1 .1 .1 .0) * 2 + 1
 
 -- a call with the measure t, and those below it; what each function may rely on
 module _ (t : ℕ) where
-  abbrev lay-calls-at : In 8 lay-calls-kinds.ps
-  lay-calls-at = and 8 lay-calls-kinds.ps (is 8 lay-calls-kinds.ps μ-lay-calls t) lay-calls.Pre
+  abbrev lay-calls-at : In 6 lay-calls-kinds.ps
+  lay-calls-at = and 6 lay-calls-kinds.ps (is 6 lay-calls-kinds.ps μ-lay-calls t) lay-calls.Pre
 
-  abbrev lay-calls-below : In 8 lay-calls-kinds.ps
-  lay-calls-below = and 8 lay-calls-kinds.ps (falls 8 lay-calls-kinds.ps _<_ μ-lay-calls t) lay-calls.Pre
+  abbrev lay-calls-below : In 6 lay-calls-kinds.ps
+  lay-calls-below = and 6 lay-calls-kinds.ps (falls 6 lay-calls-kinds.ps _<_ μ-lay-calls t) lay-calls.Pre
 
-  abbrev lay-slot-at : In 8 lay-slot-kinds.ps
-  lay-slot-at = and 8 lay-slot-kinds.ps (is 8 lay-slot-kinds.ps μ-lay-slot t) lay-slot.Pre
+  abbrev lay-slot-at : In 6 lay-slot-kinds.ps
+  lay-slot-at = and 6 lay-slot-kinds.ps (is 6 lay-slot-kinds.ps μ-lay-slot t) lay-slot.Pre
 
-  abbrev lay-slot-below : In 8 lay-slot-kinds.ps
-  lay-slot-below = and 8 lay-slot-kinds.ps (falls 8 lay-slot-kinds.ps _<_ μ-lay-slot t) lay-slot.Pre
+  abbrev lay-slot-below : In 6 lay-slot-kinds.ps
+  lay-slot-below = and 6 lay-slot-kinds.ps (falls 6 lay-slot-kinds.ps _<_ μ-lay-slot t) lay-slot.Pre
 
-  abbrev lay-slots-at : In 8 lay-slots-kinds.ps
-  lay-slots-at = and 8 lay-slots-kinds.ps (is 8 lay-slots-kinds.ps μ-lay-slots t) lay-slots.Pre
+  abbrev lay-slots-at : In 6 lay-slots-kinds.ps
+  lay-slots-at = and 6 lay-slots-kinds.ps (is 6 lay-slots-kinds.ps μ-lay-slots t) lay-slots.Pre
 
-  abbrev lay-slots-below : In 8 lay-slots-kinds.ps
-  lay-slots-below = and 8 lay-slots-kinds.ps (falls 8 lay-slots-kinds.ps _<_ μ-lay-slots t) lay-slots.Pre
+  abbrev lay-slots-below : In 6 lay-slots-kinds.ps
+  lay-slots-below = and 6 lay-slots-kinds.ps (falls 6 lay-slots-kinds.ps _<_ μ-lay-slots t) lay-slots.Pre
 
   abbrev lay-calls-claims : lay-calls-lts.Claims
   lay-calls-claims = (lay-calls-below, lay-calls.Post, lay-slots-below, lay-slots.Post)
@@ -63,6 +63,12 @@ module _ (t : ℕ) where
 
   lay-calls-returns : lay-calls-lts.Need-returns lay-calls-claims lay-calls-at lay-calls.Post
   lay-calls-returns c = calls-done _ _ _ _ (c .before .pre .1 .1 .0) (c .if1 .taken) (c .before .pre .1 .0)
+
+  lay-calls-add-if2 : lay-calls-lts.Need-add-if2 lay-calls-claims lay-calls-at lay-calls.Post
+  lay-calls-add-if2 c = search needs
+
+  lay-calls-mul-if2 : lay-calls-lts.Need-mul-if2 lay-calls-claims lay-calls-at lay-calls.Post
+  lay-calls-mul-if2 c = search needs
 
   lay-calls-element-copy-out-if2 : lay-calls-lts.Need-element-copy-out-if2 lay-calls-claims lay-calls-at lay-calls.Post
   lay-calls-element-copy-out-if2 c = search needs
@@ -158,6 +164,9 @@ module _ (t : ℕ) where
       let start = here .before .before in
       slot-stays _ _ _ _ (start .pre .1 .1 .0) _ (start .pre .1 .0) (here .if1 .left) (sym (fit .rules-fit .ensures) ∙ not-false (fit .rules-fit .result) (stays .if2 .left)) (c .lay-calls .ensures)
 
+  lay-slots-add-next-open : lay-slots-lts.Need-add-next-open lay-slots-claims lay-slots-at lay-slots.Post
+  lay-slots-add-next-open c = search needs
+
   lay-slots-mul-next-open : lay-slots-lts.Need-mul-next-open lay-slots-claims lay-slots-at lay-slots.Post
   lay-slots-mul-next-open c = search needs
 
@@ -173,7 +182,7 @@ module _ (t : ℕ) where
   lay-slots-returns : lay-slots-lts.Need-returns lay-slots-claims lay-slots-at lay-slots.Post
   lay-slots-returns c =
       let start = c .before .before .before in
-      slots-done _ _ _ _ (start .pre .1 .1 .0) (λ i. refl) (c .before .next-open .ensures) (c .if1 .taken) (start .pre .1 .0)
+      slots-done _ _ _ _ (start .pre .1 .1 .0) (λ i. refl) (c .before .next-open .ensures) (start .pre .1 .1 .1 .1) (c .if1 .taken) (start .pre .1 .0)
 
   lay-slots-lay-slot-requires : lay-slots-lts.Need-lay-slot-requires lay-slots-claims lay-slots-at lay-slots.Post
   lay-slots-lay-slot-requires c κs =
@@ -234,6 +243,8 @@ pub +lay-calls+lay-slot+lay-slots-spec : {M : Type 1} → statement M
     close μ-lay-calls μ-lay-slot μ-lay-slots
     (λ t. lay-calls-lts.spec (lay-calls-claims t) (lay-calls-at t) lay-calls.Post
     (lay-calls-returns t)
+    (lay-calls-add-if2 t)
+    (lay-calls-mul-if2 t)
     (lay-calls-element-copy-out-if2 t)
     (lay-calls-add-lay-calls t)
     (lay-calls-lay-calls-requires t)
@@ -255,6 +266,7 @@ pub +lay-calls+lay-slot+lay-slots-spec : {M : Type 1} → statement M
     (lay-slot-lay-calls-requires t)
     (lay-slot-returns-3 t))
     (λ t. lay-slots-lts.spec (lay-slots-claims t) (lay-slots-at t) lay-slots.Post
+    (lay-slots-add-next-open t)
     (lay-slots-mul-next-open t)
     (lay-slots-element-copy-out-next-open t)
     (lay-slots-next-open-requires t)
