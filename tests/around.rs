@@ -77,7 +77,7 @@ impl Both {
             seen.broken += broken.is_some() as usize;
             seen.last_rule_broken += (broken == Some(63)) as usize;
         }
-        self.check_first(random, plan, seen);
+        self.check_first(&mut Random(!random.0), plan, seen);
     }
 
     /// The first full plan is the one that the board is made around, or comes before it.
@@ -128,6 +128,6 @@ pub fn run() {
     assert!(!all.contains(&0) && !all_of_first.contains(&0), "boards around a plan: {seen:?}");
     print!("boards around a plan: {kept} plans kept, {kept_of_64_rules} with 64 rules, {kept_with_cancelled} with ");
     println!("cancelled calls; {broken} broken, {last_rule_broken} by rule 63 alone");
-    print!("boards around a plan: {first} first plans, {first_of_64_rules} with 64 rules, {first_with_cancelled} with ");
+    print!("first plans on such boards: {first}, {first_of_64_rules} with 64 rules, {first_with_cancelled} with ");
     println!("cancelled calls; {given_up} searches given up");
 }

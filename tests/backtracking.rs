@@ -224,6 +224,6 @@ pub fn run() {
     let Seen { first, after_back, after_long_back, with_cancelled, nothing } = seen;
     let all = [first, after_back, after_long_back, with_cancelled, nothing];
     assert!(!all.contains(&0), "boards to go back on: {seen:?}");
-    print!("boards to go back on: {first} first plans, {after_back} after going back, {after_long_back} over three calls ");
-    println!("or more, {with_cancelled} with cancelled calls; {nothing} searches for nothing that lay a slot");
+    print!("boards to go back on: {first} first plans, {after_back} after going back, {after_long_back} over three ");
+    println!("calls or more, {with_cancelled} with cancelled calls; {nothing} searches for nothing that lay a slot");
 }

@@ -354,6 +354,6 @@ pub fn run() {
     assert!(!all.contains(&0), "lists that cancel: {seen:?}");
     print!("lists that cancel: {PAIRS} pairs, {struck} with struck slots, {more_open} calls with more open after the first; ");
     println!("{plans} full plans, {other_plans} others");
-    print!("first plans after lists that cancel: {first_plans}, {first_after_back} after going back over several calls; ");
+    print!("first plans after such lists: {first_plans}, {first_after_back} after going back over several calls; ");
     println!("{searched_for_nothing} searches for nothing that lay a slot");
 }

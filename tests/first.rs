@@ -72,12 +72,7 @@ pub struct Search {
 }
 
 /// Lays these calls, the first one first, each with its open slots in rising order. A call whose last slot is done goes back to the call before.
-pub fn search(
-    calls: &[u8],
-    is_open: impl Fn(u8, u8) -> bool,
-    stays: impl Fn(&Plan) -> bool,
-    most: u32,
-) -> Search {
+pub fn search(calls: &[u8], is_open: impl Fn(u8, u8) -> bool, stays: impl Fn(&Plan) -> bool, most: u32) -> Search {
     let (mut plan, mut laid, mut back) = ([255; 32], 0, 0);
     let mut search = Search { end: End::GivenUp, trials: 0, in_vain: 0, back: 0 };
     while let Some(call) = calls.get(laid) {
