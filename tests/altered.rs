@@ -5,7 +5,7 @@
 use crate::berth::lent::Memory;
 use crate::berth::{MarkedValue, Slot, Summary};
 use crate::filter::all_slots;
-use crate::first::{search, End, Search};
+use crate::first::{search_first, End, FirstSearch};
 use crate::host::{first_plan, number_of, Fenced, FirstReply, Host, PlanReply};
 use crate::ledger::{Ledger, BACK, BOARD, CANCEL, LAST_KIND, LENGTHS, LIFT, MARK, PUT};
 use crate::random::Random;
@@ -204,7 +204,7 @@ fn some_plan(random: &mut Random, memory: Memory) -> Vec<u8> {
 }
 
 /// The search for the first full plan, by nothing but the bytes: a call is laid where it has slots, and any of its 32 slots is open whose byte says so.
-fn search_bytes(memory: Memory) -> Search {
+fn search_bytes(memory: Memory) -> FirstSearch {
     let calls: Vec<u8> = (0..32).filter(|call| slots_for(memory, *call as usize) != 0).collect();
     let columns: Vec<Vec<(usize, usize)>> = (0..64).map(|p| columns_of(memory, p)).collect();
     let is_open = |call: u8, slot: u8| memory.slots[32 * call as usize + slot as usize] == 255;
@@ -213,7 +213,7 @@ fn search_bytes(memory: Memory) -> Search {
         let is_due = |p: usize| columns[p].iter().any(is_laid) && columns[p].iter().all(is_laid);
         (0..64).all(|p| !is_due(p) || is_fitted(memory, p, &columns[p], plan))
     };
-    search(&calls, is_open, stays, MOST)
+    search_first(&calls, is_open, stays, MOST)
 }
 
 /// The first full plan under some ceilings. Returns a reply: where it is not refused, that under the highest of them.

@@ -4,7 +4,7 @@
 use crate::around::Both;
 use crate::berth::PlanCheck;
 use crate::filter::open_slots;
-use crate::first::{search_board, End, Search};
+use crate::first::{search_board, End, FirstSearch};
 use crate::host::{first_plan, FirstReply};
 use crate::ledger::{BOARD, CANCEL, GAP, HEAD, PUT, ROW};
 use crate::plans::{broken_rules, Plan};
@@ -59,7 +59,7 @@ impl Both {
     }
 
     /// The library replies as the search says, and keeps the plan that is found.
-    fn check_search(&self, random: &mut Random) -> Search {
+    fn check_search(&self, random: &mut Random) -> FirstSearch {
         let search = search_board(&self.ledger, &open_slots(&self.ledger), MOST);
         assert!(search.end != End::GivenUp, "a search of over {MOST} trials");
         let ceilings = search.ceilings(random);
@@ -161,8 +161,8 @@ fn check_long_way_back() {
     assert_eq!(both.check_search(&mut Random(0)).back, 31, "the calls that it goes back over");
 }
 
-/// Two rules on each two neighbours: after any slot but the last they ask for two slots of the next call. So each call but the last lays all its slots, and the next
-/// one all of its own after each but the last.
+/// Two rules on each two neighbours: after any slot but 31 they ask for two different slots of the next call. So each call but the last lays its 32 slots, and after
+/// each of these but slot 31 the next call all of its own in vain.
 fn check_long_way_down() {
     let mut both = start(&[32; 32]);
     for call in 0..31 {

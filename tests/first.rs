@@ -11,7 +11,7 @@ use crate::plans::{broken_rules, Plan};
 use crate::random::Random;
 use crate::session::Session;
 
-const ALL: [&str; 34] = [
+const ALL: [&str; 35] = [
     "first plans",
     "first plans without a trial",
     "first plans of lowest open slots",
@@ -46,6 +46,7 @@ const ALL: [&str; 34] = [
     "first plans asked beside killers of another length",
     "first plans asked beside slots of another length",
     "first plans asked without a board",
+    "first plans asked without a board and beside a buffer of another length",
 ];
 
 /// The trials that a search in lists makes before it is given up.
@@ -61,7 +62,7 @@ pub enum End {
 
 /// A search without a ceiling.
 #[derive(Debug)]
-pub struct Search {
+pub struct FirstSearch {
     pub end: End,
     /// slots laid; of a search that is given up, one more than it may lay
     pub trials: u32,
@@ -72,9 +73,14 @@ pub struct Search {
 }
 
 /// Lays these calls, the first one first, each with its open slots in rising order. A call whose last slot is done goes back to the call before.
-pub fn search(calls: &[u8], is_open: impl Fn(u8, u8) -> bool, stays: impl Fn(&Plan) -> bool, most: u32) -> Search {
+pub fn search_first(
+    calls: &[u8],
+    is_open: impl Fn(u8, u8) -> bool,
+    stays: impl Fn(&Plan) -> bool,
+    most: u32,
+) -> FirstSearch {
     let (mut plan, mut laid, mut back) = ([255; 32], 0, 0);
-    let mut search = Search { end: End::GivenUp, trials: 0, in_vain: 0, back: 0 };
+    let mut search = FirstSearch { end: End::GivenUp, trials: 0, in_vain: 0, back: 0 };
     while let Some(call) = calls.get(laid) {
         let place = *call as usize;
         let next = if plan[place] == 255 { 0 } else { plan[place] + 1 };
@@ -124,11 +130,11 @@ pub fn laid_calls(ledger: &Ledger) -> Vec<u8> {
 }
 
 /// The search on a ledger's board, whose open slots are these.
-pub fn search_board(ledger: &Ledger, open: &Slots, most: u32) -> Search {
-    search(&laid_calls(ledger), |call, slot| has(open, (call, slot)), |plan| stays(ledger, plan), most)
+pub fn search_board(ledger: &Ledger, open: &Slots, most: u32) -> FirstSearch {
+    search_first(&laid_calls(ledger), |call, slot| has(open, (call, slot)), |plan| stays(ledger, plan), most)
 }
 
-impl Search {
+impl FirstSearch {
     pub fn plan(&self) -> Option<Plan> {
         match self.end {
             End::Found(plan) => Some(plan),
@@ -165,7 +171,7 @@ impl Search {
     }
 }
 
-/// The search of the ledger's board under some ceilings. The plan that is found is kept, by the ledger and by the library, and its slots are open.
+/// Asks under some ceilings. The plan that is found is kept, by the ledger and by the library.
 pub fn ask(random: &mut Random, session: &mut Session) {
     let refusal = session.due(session.ledger.first_plan_refusal());
     if refusal != 0 {
@@ -195,12 +201,14 @@ impl Session<'_> {
             self.tally.questions += 1;
             self.tally.refusals[number as usize] += 1;
         }
-        let lengths = self.host.lengths().buffers;
+        let (lengths, no_board) = (self.host.lengths().buffers, self.ledger.counts.is_empty());
         let [rows, killers, slots] = [0, 1, 2].map(|i| lengths[i] != LENGTHS.buffers[i]);
         self.tally.first.count("first plans asked beside rows of another length", rows);
         self.tally.first.count("first plans asked beside killers of another length", killers);
         self.tally.first.count("first plans asked beside slots of another length", slots);
         self.tally.first.count("first plans asked without a board", number == 6);
+        let both = no_board && number == 1;
+        self.tally.first.count("first plans asked without a board and beside a buffer of another length", both);
     }
 }
 
@@ -215,7 +223,7 @@ impl FirstPlans {
         self.seen.count(what, holds);
     }
 
-    fn found(&mut self, ledger: &Ledger, open: &Slots, search: &Search, plan: &Plan) {
+    fn found(&mut self, ledger: &Ledger, open: &Slots, search: &FirstSearch, plan: &Plan) {
         let calls = laid_calls(ledger);
         let lowest = |call: &u8| open[*call as usize].trailing_zeros() == plan[*call as usize] as u32;
         let passes_struck = |call: &u8| !(0..plan[*call as usize]).all(|slot| has(open, (*call, slot)));
@@ -244,7 +252,7 @@ impl FirstPlans {
         self.count("first plans by the last row of a rule alone", ledger.rules.values().any(last_alone));
     }
 
-    fn not_found(&mut self, ledger: &Ledger, open: &Slots, struck: &Slots, search: &Search) {
+    fn not_found(&mut self, ledger: &Ledger, open: &Slots, struck: &Slots, search: &FirstSearch) {
         if search.end == End::GivenUp {
             return self.count("searches given up", true);
         }
@@ -258,7 +266,7 @@ impl FirstPlans {
         self.count("searches for nothing with a cancelled call", !ledger.cancelled.is_empty());
     }
 
-    fn ceiling(&mut self, search: &Search, ceiling: u32) {
+    fn ceiling(&mut self, search: &FirstSearch, ceiling: u32) {
         let (trials, found, nothing) = (search.trials, search.plan().is_some(), search.end == End::Nothing);
         let one_short = trials.checked_sub(1) == Some(ceiling);
         if ceiling == 0 {
