@@ -2,7 +2,7 @@
 //! of every command: that a refused one changes nothing, what an accepted one leaves of the names and the marks, and what a cancellation leaves.
 
 use crate::berth::lent::{self, Memory};
-use crate::berth::{Answer, Draft, Heads, MarkedValue, Name, Refusal, Replay, Report, Rule, Summary, Value};
+use crate::berth::{Answer, Draft, Heads, MarkedValue, Name, Refusal, Replay, Report, Rule, Summary, Value, PLAN};
 use crate::ledger::{Kept, Ledger, Lengths, Rules, BACK, BOARD, CANCEL, LENGTHS, MARK};
 use std::ops::Range;
 
@@ -108,7 +108,7 @@ pub struct FirstReply {
     pub trials: u32,
     pub number: u8,
     pub ending: u8,
-    pub plan: [u8; 32],
+    pub plan: [u8; PLAN],
 }
 
 impl FirstReply {
@@ -118,6 +118,8 @@ impl FirstReply {
     pub const REFUSED: FirstReply = FirstReply { ending: 254, ..FirstReply::NOTHING };
 }
 
+// berth.rs declares both with structs of its own, of the same layout
+#[allow(clashing_extern_declarations)]
 #[rustfmt::skip]
 extern "C" {
     fn berth_first_plan(value: Value, rows: *const u8, r: usize, killers: *const u8, k: usize, slots: *const u8, s: usize, ceiling: u32) -> FirstReply;
