@@ -3,8 +3,8 @@
 //! command of the library leaves the summary table current, too, in the time that is measured; the others have no such table.
 //!
 //! Gap rules are measured apart from these: each is one command of the library, against the head and the rows of the same draft. So are marks and backs of order
-//! 13's board, cancellations, and commands that have next to nothing to do, of the library alone; and checks of plans, against a board that is made for them
-//! (plans.rs), compiled twice like afresh.rs. The library is handed a copy of its value with each check.
+//! 13's board, cancellations, and commands that have next to nothing to do, of the library alone; and checks of plans and searches for the first full plan, each
+//! against a board that is made for them (plans.rs, search.rs), compiled twice like afresh.rs. The library is handed a copy of its value with each of both.
 #[path = "../hosts/berth.rs"]
 mod berth;
 
@@ -125,8 +125,20 @@ fn long_chain() -> Case {
 
 /// Twelve calls of 32 slots, each one or two slots after the one before: every link is lifted and put.
 fn chain() -> Case {
-    let link = |c: usize| Rule::new(c, &[c, c + 1], (0..31).flat_map(|s| [vec![s, s + 1], vec![s, s + 2]]).filter(|row| row[1] < 32).collect());
-    Case { name: "chain", counts: vec![32; 12], rules: (0..11).map(link).collect(), measured: (0..11).collect(), rounds: 1000 }
+    let link = |c: usize| {
+        Rule::new(
+            c,
+            &[c, c + 1],
+            (0..31).flat_map(|s| [vec![s, s + 1], vec![s, s + 2]]).filter(|row| row[1] < 32).collect(),
+        )
+    };
+    Case {
+        name: "chain",
+        counts: vec![32; 12],
+        rules: (0..11).map(link).collect(),
+        measured: (0..11).collect(),
+        rounds: 1000,
+    }
 }
 
 /// The pairs of slots below n that pass.
@@ -148,7 +160,9 @@ fn everyday() -> Case {
 /// Twelve calls of ten slots: each goes before the next but one, neighbours lie apart, and each third call has slots of its own.
 fn busy_day() -> Case {
     let mut rules: Vec<Rule> = (0..10).map(|c| Rule::new(c, &[c, c + 2], pairs(10, |a, b| a < b))).collect();
-    rules.extend((0..11).map(|c| Rule::new(10 + c, &[c, c + 1], pairs(10, |a, b| a + 2 <= b || (b + 2 <= a && b + 5 > a)))));
+    rules.extend(
+        (0..11).map(|c| Rule::new(10 + c, &[c, c + 1], pairs(10, |a, b| a + 2 <= b || (b + 2 <= a && b + 5 > a)))),
+    );
     rules.extend((0..4).map(|k| Rule::new(21 + k, &[3 * k], (k..k + 5).map(|s| vec![s]).collect())));
     Case { name: "busy day", counts: vec![10; 12], measured: (0..rules.len()).collect(), rules, rounds: 1000 }
 }
@@ -241,7 +255,8 @@ impl Side for Ours {
     }
 
     fn shown(&self) -> [u32; 32] {
-        let shown: [u32; 32] = std::array::from_fn(|call| self.board.open_slots(call as u8).map_or(0, |open| open.mask));
+        let shown: [u32; 32] =
+            std::array::from_fn(|call| self.board.open_slots(call as u8).map_or(0, |open| open.mask));
         let counted = self.board.summaries().map(|figures| figures.open as u32);
         assert!(counted == shown.map(u32::count_ones), "the summary table has other open slots");
         shown
@@ -487,7 +502,9 @@ fn measure_cancellations(clock: u64) {
     println!("Nanoseconds per cancellation, the mean over the board's calls of each one's median; reading the clock, {clock} ns, is taken off.\n");
     println!("| {:12} | {:31} | {:>9} |", "board", "slots, per command", "library");
     println!("|--------------|---------------------------------|-----------|");
-    [busiest(), dense("dense", 24, 60), long_chain(), busy_day()].iter().for_each(|case| measure_cancellation(case, clock));
+    [busiest(), dense("dense", 24, 60), long_chain(), busy_day()]
+        .iter()
+        .for_each(|case| measure_cancellation(case, clock));
 }
 
 /// So many are timed in a row, since one of them takes about as long as reading the clock.
@@ -518,6 +535,16 @@ fn measure_small_commands(clock: u64) {
         let answer = if due == 0 { "accepted".to_string() } else { format!("refused {due}") };
         println!("| {kind:4} | {answer:10} | {:9.1} |", (median(&times) - clock) as f64 / IN_A_ROW as f64);
     }
+}
+
+/// The library's board with all rules in force, and these calls cancelled.
+fn with_cancelled(case: &Case, cancelled: &[u8]) -> Ours {
+    let mut side = Ours::start(case);
+    put_all(&mut side, case);
+    for call in cancelled {
+        side.board.cancel(*call).unwrap();
+    }
+    side
 }
 
 /// The lowest number of a rule that a plan breaks, none where it keeps all, or the number of a refusal.
@@ -599,12 +626,7 @@ impl Planned {
     }
 
     fn ours(&self) -> Ours {
-        let mut side = Ours::start(&self.case);
-        put_all(&mut side, &self.case);
-        for call in &self.cancelled {
-            side.board.cancel(*call).unwrap();
-        }
-        side
+        with_cancelled(&self.case, &self.cancelled)
     }
 }
 
@@ -686,7 +708,7 @@ fn compare_refusals() {
     }
 }
 
-fn measure_plans(clock: u64) {
+fn measure_checks(clock: u64) {
     compare_refusals();
     println!("Nanoseconds per check, medians of {IN_A_ROW} plans in a row; reading the clock, {clock} ns, is taken off.\nA ratio above 1: the library is faster. The last three columns are millions of checks a second.\n");
     println!(
@@ -707,6 +729,138 @@ fn measure_plans(clock: u64) {
     boards.iter().for_each(|board| measure_plans_of(board, clock));
 }
 
+/// All calls need different slots: each two have the rows of a gap rule of form 2 and gap 1.
+fn all_differ(name: &'static str, counts: Vec<u8>) -> Case {
+    let mut rules = vec![];
+    for b in 0..counts.len() {
+        for a in 0..b {
+            let of_call = |call: usize| 0..counts[call] as usize;
+            let rows = of_call(a).flat_map(|s| of_call(b).filter(move |t| s != *t).map(move |t| vec![s, t]));
+            rules.push(Rule::new(rules.len(), &[a, b], rows.collect()));
+        }
+    }
+    Case { name, counts, rules, measured: vec![], rounds: 0 }
+}
+
+/// The longest way down: with any slot but its last, two rules want different slots of the next call. So each call goes through all of its slots.
+fn deep() -> Case {
+    let rows = |k: usize| (0..32).map(|t| vec![31, t]).chain((0..31).map(move |s| vec![s, k])).collect();
+    let rules = (0..62).map(|r| Rule::new(r, &[r / 2, r / 2 + 1], rows(r % 2))).collect();
+    Case { name: "deep", counts: vec![32; 32], rules, measured: vec![], rounds: 0 }
+}
+
+/// The ending of a search, its trials and the plan, or the number of a refusal.
+type Searched = Result<search::Answer, u8>;
+
+impl Ours {
+    fn first_plan(&self, ceiling: u32) -> Searched {
+        let blank = [berth::NONE; berth::PLAN];
+        match self.board.first_plan(ceiling) {
+            Ok(berth::FirstPlan::Found { plan, trials }) => Ok((search::FOUND, trials, plan)),
+            Ok(berth::FirstPlan::None { trials }) => Ok((search::NOTHING, trials, blank)),
+            Ok(berth::FirstPlan::Stopped { trials }) => Ok((search::STOPPED, trials, blank)),
+            Err(refusal) => Err(refusal.number()),
+        }
+    }
+}
+
+/// The board of the crate of this name, with the open slots that the library shows.
+macro_rules! search_board {
+    ($library:ident, $case:expr, $cancelled:expr, $ours:expr) => {{
+        let mut board = $library::Board::new($case.counts.len(), $cancelled, $ours.shown());
+        for rule in &$case.rules {
+            board.put(&rule.calls, &rule.rows);
+        }
+        board
+    }};
+}
+
+/// Asks so many times in a row. Each answer has to be the one that is due.
+fn ask(times: &mut Vec<u64>, in_a_row: u64, due: Searched, first_plan: impl Fn() -> Searched) {
+    let mut others = 0;
+    timed(times, || others = (0..in_a_row).filter(|_| first_plan() != due).count());
+    assert!(others == 0, "{others} other answers");
+}
+
+/// Both ways to search give the library's answer: with any ceiling around the trials that are needed, and where there is no board.
+fn compare_searches(case: &Case, cancelled: &[u8]) {
+    let ours = with_cancelled(case, cancelled);
+    let tables = search_board!(search, case, cancelled, ours).tables().unwrap();
+    let (_, trials, _) = ours.first_plan(u32::MAX).unwrap();
+    for ceiling in [0, 1, trials / 2, trials.saturating_sub(1), trials, trials + 1, u32::MAX] {
+        let answer = ours.first_plan(ceiling).unwrap();
+        let others = [tables.slot_by_slot(ceiling), tables.at_once(ceiling)];
+        assert!(others == [answer; 2], "{}: another answer, ceiling {ceiling}", case.name);
+    }
+    let fresh = Ours { board: berth::Board::new(), changes: Changes::default() };
+    let refusals = (fresh.first_plan(1).err(), search::Board::new(0, &[], [0; 32]).tables().err());
+    assert!(refusals.0.is_some() && refusals.0 == refusals.1, "another answer without a board");
+}
+
+/// The tables of the other side are made in the time of a question; only "kept" has them from before. It and "native" search at once.
+fn measure_search(case: &Case, clock: u64) {
+    let ours = with_cancelled(case, &[]);
+    let (board, native) = (search_board!(search, case, &[], ours), search_board!(search_native, case, &[], ours));
+    let kept = board.tables().unwrap();
+    let due = ours.first_plan(u32::MAX);
+    let (ending, trials, _) = due.unwrap();
+    let in_a_row = if trials < 1000 { IN_A_ROW } else { 1 };
+    let mut times = [vec![], vec![], vec![], vec![], vec![]];
+    for _ in 0..51 {
+        ask(&mut times[0], in_a_row, due, || ours.first_plan(u32::MAX));
+        ask(&mut times[1], in_a_row, due, || Ok(board.tables()?.slot_by_slot(u32::MAX)));
+        ask(&mut times[2], in_a_row, due, || Ok(board.tables()?.at_once(u32::MAX)));
+        ask(&mut times[3], in_a_row, due, || Ok(native.tables()?.at_once(u32::MAX)));
+        ask(&mut times[4], in_a_row, due, || Ok(kept.at_once(u32::MAX)));
+    }
+    let times = times.map(|times| (median(&times) - clock) as f64 / in_a_row as f64);
+    let ending = if ending == search::FOUND { "found" } else { "none" };
+    let nanoseconds = times.map(|time| format!("{time:8.0}"));
+    let a_second = times.map(|time| format!("{:7.1}", 1000.0 * trials as f64 / time));
+    println!("| {:12} | {ending:6} | {trials:6} | {} | {} |", case.name, nanoseconds.join(" | "), a_second.join(" | "));
+}
+
+/// Before anything is timed all answers are compared, also on boards with rules of three and four calls, and with cancelled calls.
+fn measure_searches(clock: u64) {
+    println!("Nanoseconds per question, medians; reading the clock, {clock} ns, is taken off. Searches of less than 1000 trials are asked {IN_A_ROW} in a row.\nThe last five columns are millions of trials a second.\n");
+    let sides = ["library", "by slot", "at once", "native", "kept"];
+    println!(
+        "| {:12} | {:6} | {:6} | {} | {} |",
+        "board",
+        "ending",
+        "trials",
+        sides.map(|side| format!("{side:>8}")).join(" | "),
+        sides.map(|side| format!("{side:>7}")).join(" | ")
+    );
+    println!(
+        "|--------------|--------|--------|{}{}",
+        "----------|".repeat(sides.len()),
+        "---------|".repeat(sides.len())
+    );
+    let boards = [
+        all_differ("9 calls on 8", vec![8; 9]),
+        // two calls of nine slots would have a rule of 72 rows, so only the first has nine
+        all_differ("9 calls on 9", vec![9, 8, 8, 8, 8, 8, 8, 8, 8]),
+        deep(),
+        busiest(),
+        everyday(),
+        all_differ("4 calls on 4", vec![4; 4]),
+    ];
+    boards.iter().for_each(|case| compare_searches(case, &[]));
+    compare_searches(&dense("overfull", 64, 20), &[]);
+    compare_searches(&four_calls(), &[3, 17]);
+    compare_searches(&busy_day(), &[2]);
+    compare_searches(&everyday(), &[0, 1, 2, 3, 4, 5]);
+    boards.iter().for_each(|case| measure_search(case, clock));
+}
+
+/// Plans that are checked, and plans that are searched for.
+fn measure_plans(clock: u64) {
+    measure_checks(clock);
+    println!();
+    measure_searches(clock);
+}
+
 /// What is measured besides the boards, by its name among theirs.
 const OTHERS: [(&str, fn(u64)); 5] = [
     ("gap rules", measure_gap_rules),
@@ -718,7 +872,16 @@ const OTHERS: [(&str, fn(u64)); 5] = [
 
 /// The boards of this name, or all where it is empty. A name that nothing has ends the program with the list of them.
 fn chosen(name: &str) -> Vec<Case> {
-    let mut cases = vec![busiest(), dense("dense", 24, 60), dense("overfull", 64, 20), many_strikes(), long_chain(), chain(), everyday(), busy_day()];
+    let mut cases = vec![
+        busiest(),
+        dense("dense", 24, 60),
+        dense("overfull", 64, 20),
+        many_strikes(),
+        long_chain(),
+        chain(),
+        everyday(),
+        busy_day(),
+    ];
     let names: Vec<&str> = cases.iter().map(|case| case.name).chain(OTHERS.map(|(name, _)| name)).collect();
     if !name.is_empty() && !names.contains(&name) {
         eprintln!("there is no board '{}'; there are: {}", name, names.join(", "));

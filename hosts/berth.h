@@ -92,13 +92,16 @@ extern "C" {
 #define BERTH_PLAN 32
 
 /*
- * The stack that a call needs, with the copies of the value that the questions are handed. It is measured and not proved: on x86-64, over every function and the
- * commands of a full board, hosts/stack.c found 6,216 bytes where it was compiled without optimisation, 6,824 with -O2, and 7,032, the most, with -O3.
+ * The stack that a call needs, with the copies of the value that the questions are handed. It is measured and not proved, on x86-64. berth_first_plan alone
+ * needs so much: on the board where its way down is longest, hosts/stack.c found 23,928 bytes where it was compiled without optimisation, and 23,896 with -O2
+ * and with -O3. Over every other function and the commands of a full board it found 6,216, the most, 6,120 and 6,120: for a host that never asks for a plan,
+ * 12,288 are enough. That the search needs no more rests on the compiler of the library, which makes a loop of the step from slot to slot; each run of the gate
+ * measures both again.
  */
-#define BERTH_STACK 12288
+#define BERTH_STACK 32768
 
 /* The version that this header is of. It rises with any change of a struct, of a function or of what one means. */
-#define BERTH_VERSION 10
+#define BERTH_VERSION 11
 
 /* The version of the library, and the bytes of its value and names. They are plain numbers, so that they can be asked whatever else differs. */
 uint32_t berth_version(void);
@@ -119,6 +122,9 @@ enum berth_kind {
 
 /* The forms of gap rules. */
 enum berth_form { BERTH_BEFORE = 1, BERTH_APART = 2, BERTH_SAME = 3 };
+
+/* How the search for a plan ended. */
+enum berth_ending { BERTH_NO_PLAN = 0, BERTH_PLAN_FOUND = 1, BERTH_SEARCH_STOPPED = 2 };
 
 /*
  * A reply's number: 0, or why it was refused; berth_refusal_text has the conditions. The first that holds decides: commands and questions check in the order
@@ -362,6 +368,29 @@ struct berth_plan_reply {
 struct berth_plan_reply berth_check_plan(struct berth_value value, const uint8_t *rows, size_t rows_length, const uint8_t *killers, size_t killers_length,
                                          const uint8_t *slots, size_t slots_length, const uint8_t *plan, size_t plan_length);
 
+/*
+ * The first full plan: a slot for each call that is not cancelled, so that berth_check_plan keeps it. Calls are laid in rising order, each with its open slots
+ * in rising order. A slot that is laid is one trial. It stays if each rule in force that has a laid call, and whose other calls are laid or cancelled, has a row
+ * that agrees with the plan in every column but those of cancelled calls. Otherwise its call gets the next slot; where there is none, the call before gets its
+ * next. So of all full plans it is the one with the lowest slot for call 0, then for call 1, and so on. Where every call is cancelled it is found with 0
+ * trials.
+ *
+ * The ceiling is the most trials that may be made, any number of 32 bits. It bounds the time, which can be minutes with the highest. A search that needs as many
+ * is not stopped; one that needs more is, and then there may be a full plan or none. Checked: 1, 6.
+ */
+struct berth_first_reply {
+    uint32_t trials;          /* the slots that were laid; the ceiling where the search was stopped; 0 where refused */
+    uint8_t number;           /* 0, or the refusal */
+    uint8_t ending;           /* BERTH_PLAN_FOUND; BERTH_NO_PLAN where there is none; BERTH_SEARCH_STOPPED at the ceiling; 254 where refused */
+    uint8_t plan[BERTH_PLAN]; /* as berth_check_plan takes it: BERTH_NONE for a call that gets no slot; where no plan was found, for all of them */
+};
+
+/* Two bytes behind the plan fill up the last word. */
+typedef char berth_first_reply_is_laid_out[offsetof(struct berth_first_reply, plan) == 6 && sizeof(struct berth_first_reply) == 40 ? 1 : -1];
+
+struct berth_first_reply berth_first_plan(struct berth_value value, const uint8_t *rows, size_t rows_length, const uint8_t *killers, size_t killers_length,
+                                          const uint8_t *slots, size_t slots_length, uint32_t ceiling);
+
 /* The caller has to look at what such a function returns. */
 #if defined(__GNUC__)
 #define BERTH_CHECKED __attribute__((warn_unused_result))
@@ -547,6 +576,10 @@ static inline struct berth_support_reply berth_board_support(const struct berth_
 
 static inline struct berth_plan_reply berth_board_check_plan(const struct berth_board *board, const uint8_t *plan, size_t length) {
     return berth_check_plan(BERTH_PARTS(board), plan, length);
+}
+
+static inline struct berth_first_reply berth_board_first_plan(const struct berth_board *board, uint32_t ceiling) {
+    return berth_first_plan(BERTH_PARTS(board), ceiling);
 }
 
 #ifdef __cplusplus

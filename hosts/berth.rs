@@ -33,7 +33,7 @@ pub const FILE: usize = 32768;
 pub const PLAN: usize = 32;
 
 /// The version that this file is of; the library has its own.
-pub const VERSION: u32 = 10;
+pub const VERSION: u32 = 11;
 
 /// The calls and the heads of the rules in force.
 #[repr(C)]
@@ -253,6 +253,17 @@ pub enum PlanCheck {
     Broken { rule: u8 },
 }
 
+/// How the search for the first full plan ended, with its trials: the slots that it laid.
+#[derive(Clone, Copy, Debug, PartialEq, Eq)]
+pub enum FirstPlan {
+    /// the plan, as `check_plan` takes it
+    Found { plan: [u8; PLAN], trials: u32 },
+    /// there is no full plan
+    None { trials: u32 },
+    /// more trials are needed than the ceiling, which is their count here
+    Stopped { trials: u32 },
+}
+
 pub type Answer<T> = Result<T, Refusal>;
 
 /// The library's functions on lent memory.
@@ -293,6 +304,14 @@ pub mod lent {
         length: usize,
     }
 
+    #[repr(C)]
+    struct FirstReply {
+        trials: u32,
+        number: u8,
+        ending: u8,
+        plan: [u8; PLAN],
+    }
+
     // A slice passes as a pointer and its length.
     type Lent = *const u8;
     type LentMut = *mut u8;
@@ -310,6 +329,7 @@ pub mod lent {
         fn berth_row_place(value: Value, rows: Lent, r: usize, killers: Lent, k: usize, slots: Lent, s: usize, rule: u8, row: u8) -> PlaceReply;
         fn berth_support(value: Value, rows: Lent, r: usize, killers: Lent, k: usize, slots: Lent, s: usize, rule: u8, column: u8, slot: u8) -> ByteReply;
         fn berth_check_plan(value: Value, rows: Lent, r: usize, killers: Lent, k: usize, slots: Lent, s: usize, plan: Lent, p: usize) -> ByteReply;
+        fn berth_first_plan(value: Value, rows: Lent, r: usize, killers: Lent, k: usize, slots: Lent, s: usize, ceiling: u32) -> FirstReply;
     }
 
     fn answer<T>(number: u8, given: T) -> Answer<T> {
@@ -516,6 +536,18 @@ pub mod lent {
             };
             answer(reply.number, given)
         }
+
+        /// The first full plan: calls are laid in rising order, open slots rising, and each slot that is laid is one trial. No more than the ceiling are made,
+        /// and a search that needs more is stopped.
+        pub fn first_plan(self, ceiling: u32) -> Answer<FirstPlan> {
+            let FirstReply { trials, number, ending, plan } = ask!(berth_first_plan, self, ceiling);
+            let given = match ending {
+                0 => FirstPlan::None { trials },
+                1 => FirstPlan::Found { plan, trials },
+                _ => FirstPlan::Stopped { trials },
+            };
+            answer(number, given)
+        }
     }
 }
 
@@ -669,5 +701,11 @@ impl Board {
     /// Whether the plan, `PLAN` bytes, keeps every rule in force; where it does not, the lowest of the broken rules. A plan that uses a struck slot breaks one.
     pub fn check_plan(&self, plan: &[u8]) -> Answer<PlanCheck> {
         self.memory().check_plan(plan)
+    }
+
+    /// The first full plan within so many trials, if there is one: of all plans with a slot for each call that is not cancelled, and that `check_plan` keeps,
+    /// the one with the lowest slot for call 0, then for call 1, and so on. The ceiling bounds the time.
+    pub fn first_plan(&self, ceiling: u32) -> Answer<FirstPlan> {
+        self.memory().first_plan(ceiling)
     }
 }

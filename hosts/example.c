@@ -1,6 +1,6 @@
-/* The worked session of docs/SCOPE.md on a board of a C host, behind it a gap rule that is tried between a mark and a back, and a call that is cancelled: a line for
-   each command, as the sheet program writes it, and after puts, lifts, the back and the cancellation the open slots of every call and its figures from the summary
-   table. Three plans are checked on the way. What was refused, and why, goes to standard error. */
+/* The worked session of docs/SCOPE.md on a board of a C host, behind it a gap rule that is tried between a mark and a back, and a call that is cancelled: a line
+   for each command, as the sheet program writes it, and after puts, lifts, the back and the cancellation the open slots of every call and its figures from the
+   summary table. Plans are checked on the way, and the first plan is searched. What was refused, and why, goes to standard error. */
 #include "berth.h"
 #include <stdio.h>
 
@@ -48,6 +48,21 @@ static void print_plan(const struct berth_board *board, uint8_t first, uint8_t s
     }
 }
 
+/* The first full plan within so many trials. It is then checked, and kept. */
+static void print_first_plan(const struct berth_board *board, uint32_t ceiling) {
+    struct berth_first_reply reply = berth_board_first_plan(board, ceiling);
+    printf("first plan within %u: ", (unsigned)ceiling);
+    if (reply.number != 0) {
+        printf("refused %d\n", reply.number);
+        fprintf(stderr, "refused: %s\n", berth_refusal_text(reply.number));
+        return;
+    }
+    const char *ending = reply.ending == BERTH_PLAN_FOUND ? "found" : reply.ending == BERTH_NO_PLAN ? "none" : "stopped";
+    printf("%s, trials %u\n", ending, (unsigned)reply.trials);
+    if (reply.ending == BERTH_PLAN_FOUND)
+        print_plan(board, reply.plan[0], reply.plan[1]);
+}
+
 int main(void) {
     static const uint8_t counts[] = {2, 2}, calls[] = {0, 1}, row_0[] = {0, 0}, row_1[] = {1, 1};
     static struct berth_board board;
@@ -67,6 +82,7 @@ int main(void) {
     print_calls(&board);
     print_plan(&board, 0, 0);
     print_plan(&board, 1, 1);
+    print_first_plan(&board, 100);
     print_reply(BERTH_LIFT, berth_board_lift(&board, 5));
     print_calls(&board);
     print_reply(BERTH_LIFT, berth_board_lift(&board, 5));
@@ -75,11 +91,14 @@ int main(void) {
     print_reply(BERTH_GAP, berth_board_gap(&board, BERTH_BEFORE, 0, 0, 1, 1));
     print_reply(BERTH_PUT, berth_board_put(&board));
     print_calls(&board);
+    print_first_plan(&board, 2);
+    print_first_plan(&board, 1);
     print_reply(BERTH_BACK, berth_board_back(&board, 0));
     print_calls(&board);
     print_reply(BERTH_CANCEL, berth_board_cancel(&board, 1));
     print_calls(&board);
     print_plan(&board, 1, BERTH_NONE);
+    print_first_plan(&board, 100);
     printf("end\n");
     return 0;
 }

@@ -137,6 +137,126 @@ static void lend_buffers(struct lent_plan *lent, const struct berth_board *board
     memcpy(lent->slots, board->slots, BERTH_SLOTS);
 }
 
+static int is_off(const struct berth_board *board, int call) {
+    return board->slots[32 * call] == BERTH_SLOT_CANCELLED;
+}
+
+/* One rule against a plan that is laid in part, by the words of the order: unless it has a laid call, and its calls are all laid or cancelled, it asks nothing.
+   Whatever the board holds, it has at most four columns and 64 rows, and calls below 32. */
+static int rule_stays(const struct berth_board *board, const uint8_t *plan, int rule) {
+    const struct berth_heads *heads = &board->value.value.heads;
+    int columns = heads->arity[rule] < 4 ? heads->arity[rule] : 4, rows = heads->lengths[rule] < 64 ? heads->lengths[rule] : 64, laid = 0;
+    for (int k = 0; k < columns; k++) {
+        int call = heads->scope[4 * rule + k] % 32;
+        if (plan[call] == BERTH_NONE && !is_off(board, call))
+            return 1;
+        laid = laid || plan[call] != BERTH_NONE;
+    }
+    for (int w = 0; laid && w < rows; w++) {
+        int fits = 1;
+        for (int k = 0; k < columns; k++) {
+            int call = heads->scope[4 * rule + k] % 32;
+            fits = fits && (is_off(board, call) || board->rows[256 * rule + 4 * w + k] == plan[call]);
+        }
+        if (fits)
+            return 1;
+    }
+    return !laid;
+}
+
+/* Lays the calls from one on, and looks at every rule with each slot. */
+static uint8_t lay_literally(const struct berth_board *board, int call, uint32_t ceiling, struct berth_first_reply *reply) {
+    while (call < 32 && (board->value.value.heads.counts[call] == 0 || is_off(board, call)))
+        call++;
+    if (call == 32)
+        return BERTH_PLAN_FOUND;
+    for (int slot = 0; slot < 32; slot++) {
+        if (board->slots[32 * call + slot] != BERTH_SLOT_OPEN)
+            continue;
+        if (reply->trials == ceiling)
+            return BERTH_SEARCH_STOPPED;
+        reply->trials++;
+        reply->plan[call] = (uint8_t)slot;
+        int stays = 1;
+        for (int rule = 0; rule < 64; rule++)
+            stays = stays && rule_stays(board, reply->plan, rule);
+        uint8_t ending = stays ? lay_literally(board, call + 1, ceiling, reply) : BERTH_NO_PLAN;
+        if (ending != BERTH_NO_PLAN)
+            return ending;
+    }
+    reply->plan[call] = BERTH_NONE;
+    return BERTH_NO_PLAN;
+}
+
+/* A reply to a search, with these slots first in its plan, and BERTH_NONE behind them. */
+static struct berth_first_reply first_reply(uint8_t number, uint8_t ending, uint32_t trials, const uint8_t *slots, size_t calls) {
+    struct berth_first_reply reply;
+    reply.trials = trials;
+    reply.number = number;
+    reply.ending = ending;
+    memset(reply.plan, BERTH_NONE, sizeof reply.plan);
+    if (calls > 0)
+        memcpy(reply.plan, slots, calls);
+    return reply;
+}
+
+static struct berth_first_reply search_literally(const struct berth_board *board, uint32_t ceiling) {
+    struct berth_first_reply reply = first_reply(0, BERTH_NO_PLAN, 0, NULL, 0);
+    if (board->value.value.heads.counts[0] == 0)
+        return first_reply(BERTH_NO_BOARD, 254, 0, NULL, 0);
+    reply.ending = lay_literally(board, 0, ceiling, &reply);
+    return first_reply(0, reply.ending, reply.trials, reply.plan, reply.ending == BERTH_PLAN_FOUND ? BERTH_PLAN : 0);
+}
+
+static void same_first(const char *what, struct berth_first_reply found, struct berth_first_reply wanted) {
+    same(what, found.number, wanted.number);
+    same(what, found.ending, wanted.ending);
+    same(what, (long)found.trials, (long)wanted.trials);
+    for (int call = 0; call < BERTH_PLAN; call++)
+        same(what, found.plan[call], wanted.plan[call]);
+}
+
+/* The search within the ceiling gets this reply: from the board, and where a copy of it is lent. Nothing changes. */
+static void same_search(const char *what, const struct berth_board *board, uint32_t ceiling, struct berth_first_reply wanted) {
+    static struct berth_board before;
+    static struct lent_plan lent, all;
+    lend_buffers(&lent, board);
+    before = *board;
+    all = lent;
+    same_first(what, berth_board_first_plan(board, ceiling), wanted);
+    same_first(what, berth_first_plan(board->value.value, BERTH_BUFFERS(&lent), ceiling), wanted);
+    same("board after a search", memcmp(board, &before, sizeof before), 0);
+    same("memory that was lent for a search", memcmp(&lent, &all, sizeof all), 0);
+}
+
+/* The search on a board that only commands wrote is the literal one, and a plan that it finds is kept. */
+static void search_board(const struct berth_board *board, uint32_t ceiling) {
+    struct berth_first_reply wanted = search_literally(board, ceiling);
+    same_search("literal search", board, ceiling, wanted);
+    if (wanted.ending == BERTH_PLAN_FOUND)
+        same_check("plan that was found", berth_board_check_plan(board, wanted.plan, BERTH_PLAN), 0, BERTH_NONE);
+}
+
+/* The search ends so after so many trials, with ceilings from there on, and is stopped at those below: at each where they are few. A plan that it finds is kept. */
+static void same_ending(const char *what, const struct berth_board *board, uint8_t ending, uint32_t trials, const uint8_t *slots, size_t calls) {
+    struct berth_first_reply wanted = first_reply(0, ending, trials, slots, calls);
+    same_search(what, board, trials, wanted);
+    same_search(what, board, trials + 1, wanted);
+    same_search(what, board, UINT32_MAX, wanted);
+    for (uint32_t ceiling = 0; ceiling < trials; ceiling += trials < 100 ? 1 : trials - 1)
+        same_search(what, board, ceiling, first_reply(0, BERTH_SEARCH_STOPPED, ceiling, NULL, 0));
+    if (ending == BERTH_PLAN_FOUND)
+        same_check(what, berth_board_check_plan(board, wanted.plan, BERTH_PLAN), 0, BERTH_NONE);
+}
+
+static void same_found(const char *what, const struct berth_board *board, uint32_t trials, const uint8_t *slots, size_t calls) {
+    same_ending(what, board, BERTH_PLAN_FOUND, trials, slots, calls);
+}
+
+static void same_no_plan(const char *what, const struct berth_board *board, uint32_t trials) {
+    same_ending(what, board, BERTH_NO_PLAN, trials, NULL, 0);
+}
+
 /* A plan with these slots, and BERTH_NONE for the calls past them, gets this reply: from the board, and where a copy of it is lent. Nothing changes. */
 static void same_reply(const char *what, const struct berth_board *board, const uint8_t *slots, size_t calls, int number, int broken) {
     static struct berth_board before;
@@ -150,6 +270,7 @@ static void same_reply(const char *what, const struct berth_board *board, const 
     same_check(what, berth_check_plan(board->value.value, BERTH_BUFFERS(&lent), lent.plan, BERTH_PLAN), number, broken);
     same("board after a plan", memcmp(board, &before, sizeof before), 0);
     same("memory that was lent with a plan", memcmp(&lent, &all, sizeof all), 0);
+    search_board(board, 200);
 }
 
 static void same_kept(const char *what, const struct berth_board *board, const uint8_t *slots, size_t calls) {
@@ -189,6 +310,7 @@ static void ask(const struct berth_board *board) {
     same_broken("plan against rule 0", board, (const uint8_t[]){0, 1}, 2, 0);
     same_broken("plan against both rules", board, (const uint8_t[]){1, 0}, 2, 0);
     same_bad_byte("plan without a slot for call 1", board, (const uint8_t[]){0}, 1);
+    same_found("first plan", board, 2, (const uint8_t[]){0, 0}, 2);
 }
 
 /* Of rows with the slot in the column, the lowest that lives is given: row 1 where all three live, row 2 while row 1 is dead. */
@@ -250,6 +372,14 @@ static void put_gap(struct berth_board *board, uint8_t form, uint8_t gap, const 
     same("first call under a gap rule", berth_board_open_slots(board, 0).mask, first);
     same("second call under a gap rule", berth_board_open_slots(board, 1).mask, second);
     same("S", (long)reply.struck, 7 - (long)(berth_board_open_slots(board, 0).ones + berth_board_open_slots(board, 1).ones));
+    if (count == 0) {
+        same_no_plan("first plan under a gap rule without rows", board, 0);
+    } else {
+        uint32_t trials = 1; /* the first pair's slot of call 0, and those of call 1 up to its other */
+        for (uint8_t slot = 0; slot <= pairs[1]; slot++)
+            trials += second >> slot & 1;
+        same_found("first plan under a gap rule", board, trials, pairs, 2);
+    }
     same("lift of a gap rule", (long)berth_board_lift(board, 7).reopened, (long)reply.struck);
 }
 
@@ -476,6 +606,7 @@ static void same_mark(struct berth_board *board, uint8_t name) {
     same("mark", reply.number, 0);
     same("its S, R and T", (long)(reply.struck + reply.reopened + reply.touched), 0);
     same("board after a mark", memcmp(board, &wanted, sizeof wanted), 0);
+    search_board(board, 200);
 }
 
 /* A back strikes and reopens so many slots. What was kept is there again, with this table and without a draft, and stays kept. */
@@ -491,6 +622,7 @@ static void same_back(struct berth_board *board, uint8_t name, long struck, long
     same("its T", (long)reply.touched, struck + reopened);
     same("board after a back", memcmp(board, &wanted, sizeof wanted), 0);
     same("put of a draft from before the back", berth_board_put(board).number, BERTH_NO_DRAFT);
+    search_board(board, 200);
 }
 
 /* A refused command leaves all as it was. */
@@ -501,6 +633,7 @@ static void same_refusal(struct berth_board *board, struct berth_command_bytes m
     same("refused command", reply.number, number);
     same("its S, R and T", (long)(reply.struck + reply.reopened + reply.touched), 0);
     same("board after it", memcmp(board, &before, sizeof before), 0);
+    search_board(board, 200);
 }
 
 /* Without a board, with every name that is over 1, and where nothing is kept: each refusal comes before the next. */
@@ -692,6 +825,7 @@ static void same_put(struct berth_board *board, uint8_t number, const uint8_t *c
     for (uint8_t w = 0; w < count; w++)
         same("row", berth_board_row(board, rows + arity * w, arity).number, 0);
     same_report("put", berth_board_put(board), struck, 0, struck);
+    search_board(board, 200);
 }
 
 /* Three slots are struck: this rule leaves call 0 its slot 0, and rule 1 passes slot 1 on to call 1. Rule 2 strikes that slot too, but comes too late to be its cause. */
@@ -790,6 +924,13 @@ static void check_cancelled_columns(struct berth_board *board) {
             else
                 same_broken("plan of other slots beside cancelled calls", board, plan, 4, 9);
         }
+        uint8_t first[4];
+        uint32_t trials = 0;
+        for (int call = 0; call < 4; call++) {
+            first[call] = cancelled >> call & 1 ? BERTH_NONE : 0;
+            trials += first[call] == 0;
+        }
+        same_found("first plan beside cancelled calls", board, trials, first, 4);
     }
 }
 
@@ -885,6 +1026,151 @@ static void check_after_back(struct berth_board *board) {
     same_bad_byte("plan from before the back", board, after_cancel, 2);
 }
 
+/* Two calls of two slots are kept apart. */
+static void put_apart(struct berth_board *board, uint8_t number, uint8_t first, uint8_t second) {
+    same_put(board, number, (const uint8_t[]){first, second}, 2, (const uint8_t[]){0, 1, 1, 0}, 2, 0);
+}
+
+/* Three calls of two slots, each two of them apart: every slot is open, and there is no full plan. */
+static void make_triangle(struct berth_board *board) {
+    same("board", berth_board_start(board, (const uint8_t[]){2, 2, 2}, 3).number, 0);
+    put_apart(board, 0, 0, 1);
+    put_apart(board, 1, 1, 2);
+    put_apart(board, 2, 0, 2);
+}
+
+/* The sample searches S1 to S8 of docs/SCOPE.md, with their ceilings and with others: S1 and S2 are one board. */
+static void search_samples(struct berth_board *board) {
+    static const uint8_t s1[] = {0, 1, 0}, s4[] = {0, BERTH_NONE, 1}, s7[] = {1, 0, 2};
+    same("board", berth_board_start(board, (const uint8_t[]){3, 3, 2}, 3).number, 0);
+    same_put(board, 0, (const uint8_t[]){0, 1}, 2, (const uint8_t[]){0, 1, 0, 2, 1, 2}, 3, 2);
+    same_search("S1", board, 3, first_reply(0, BERTH_PLAN_FOUND, 3, s1, 3));
+    same_search("S2", board, 2, first_reply(0, BERTH_SEARCH_STOPPED, 2, NULL, 0));
+    same_found("S1 and S2", board, 3, s1, 3);
+    make_triangle(board);
+    same_search("S3", board, 10, first_reply(0, BERTH_NO_PLAN, 10, NULL, 0));
+    same_no_plan("S3", board, 10);
+    same("cancel", berth_board_cancel(board, 1).number, 0);
+    same_search("S4", board, 100, first_reply(0, BERTH_PLAN_FOUND, 3, s4, 3));
+    same_found("S4", board, 3, s4, 3);
+    same("cancel", berth_board_cancel(board, 0).number, 0);
+    same("cancel", berth_board_cancel(board, 2).number, 0);
+    same_search("S5", board, 0, first_reply(0, BERTH_PLAN_FOUND, 0, NULL, 0));
+    same_found("S5", board, 0, NULL, 0);
+    same("board", berth_board_start(board, (const uint8_t[]){2, 2}, 2).number, 0);
+    same_put(board, 0, (const uint8_t[]){1}, 1, NULL, 0, 2);
+    same_search("S6", board, 100, first_reply(0, BERTH_NO_PLAN, 2, NULL, 0));
+    same_no_plan("S6", board, 2);
+    same("board", berth_board_start(board, (const uint8_t[]){2, 2, 3}, 3).number, 0);
+    put_apart(board, 0, 0, 1);
+    same_put(board, 1, (const uint8_t[]){1, 2}, 2, (const uint8_t[]){0, 1, 1, 0, 0, 2}, 3, 0);
+    same_put(board, 2, (const uint8_t[]){0, 2}, 2, (const uint8_t[]){0, 1, 1, 0, 1, 2}, 3, 0);
+    same_search("S7", board, UINT32_MAX, first_reply(0, BERTH_PLAN_FOUND, 11, s7, 3));
+    same_found("S7", board, 11, s7, 3);
+    same("clear", berth_board_clear(board), 1);
+    same_search("S8", board, 100, first_reply(BERTH_NO_BOARD, 254, 0, NULL, 0));
+}
+
+/* Rules without rows. On call 0 one leaves nothing to lay: there is no plan, with 0 trials and with ceiling 0. Where all its calls are cancelled it asks nothing
+   of the calls that are laid, and nothing where none is. A draft asks nothing either. */
+static void search_without_rows(struct berth_board *board) {
+    same("board", berth_board_start(board, (const uint8_t[]){2, 3, 2}, 3).number, 0);
+    same("head", berth_board_head(board, 63, (const uint8_t[]){0}, 1).number, 0);
+    same_found("first plan beside a draft without rows", board, 3, (const uint8_t[]){0, 0, 0}, 3);
+    same_put(board, 4, (const uint8_t[]){0, 1}, 2, NULL, 0, 5);
+    same_no_plan("first plan where call 0 has no open slot", board, 0);
+    same_report("cancel", berth_board_cancel(board, 0), 0, 0, 0);
+    same_no_plan("first plan where call 1 has no open slot", board, 0);
+    same_report("cancel", berth_board_cancel(board, 1), 0, 0, 0);
+    same_found("first plan beside a rule that binds nothing", board, 1, (const uint8_t[]){BERTH_NONE, BERTH_NONE, 0}, 3);
+    same_report("cancel", berth_board_cancel(board, 2), 0, 0, 0);
+    same_found("first plan without a call", board, 0, NULL, 0);
+}
+
+/* The triangle on three of 32 calls, the others with one slot, and under any three neighbouring numbers: a rule is looked at with the last of its calls,
+   whichever number it has, and wherever its calls are. */
+static void search_all_rules(struct berth_board *board) {
+    static const uint8_t corners[][3] = {{0, 1, 2}, {29, 30, 31}, {0, 15, 31}}, trials[] = {10, 39, 68};
+    for (uint8_t number = 0; number < 64; number++)
+        for (int i = 0; i < 3; i++) {
+            uint8_t counts[32];
+            memset(counts, 1, sizeof counts);
+            for (int corner = 0; corner < 3; corner++)
+                counts[corners[i][corner]] = 2;
+            same("board", berth_board_start(board, counts, 32).number, 0);
+            put_apart(board, number, corners[i][2], corners[i][0]);
+            put_apart(board, (number + 1) % 64, corners[i][1], corners[i][2]);
+            put_apart(board, (number + 2) % 64, corners[i][0], corners[i][1]);
+            same_no_plan("triangle under each number", board, trials[i]);
+        }
+}
+
+/* Nine calls of eight slots, each two of them apart. As many trials as ways to lay up to eight different slots, and each time eight of the next call. */
+static void search_long(struct berth_board *board) {
+    uint8_t counts[9], number = 0;
+    uint32_t ways = 1, trials = 0;
+    memset(counts, 8, sizeof counts);
+    same("board", berth_board_start(board, counts, 9).number, 0);
+    for (uint8_t second = 1; second < 9; second++)
+        for (uint8_t first = 0; first < second; first++) {
+            same("gap", berth_board_gap(board, BERTH_APART, number++, first, second, 1).number, 0);
+            same_report("put", berth_board_put(board), 0, 0, 0);
+        }
+    for (uint32_t laid = 0; laid <= 8; laid++) {
+        trials += 8 * ways;
+        ways *= 8 - laid;
+    }
+    same("trials", (long)trials, 876808);
+    same_no_plan("nine calls in eight slots", board, trials);
+    same("cancel", berth_board_cancel(board, 3).number, 0);
+    same_found("eight calls in eight slots", board, 36, (const uint8_t[]){0, 1, 2, BERTH_NONE, 3, 4, 5, 6, 7}, 9);
+}
+
+/* A buffer of another length is refused before it is seen that there is no board. A refusal has no trials and no plan, whatever the ceiling. */
+static void refuse_search(struct berth_board *board) {
+    static const size_t sizes[3] = {BERTH_ROWS, BERTH_KILLERS, BERTH_SLOTS};
+    static const uint32_t ceilings[] = {0, 1, 2, 1000, UINT32_MAX};
+    static struct lent_plan lent, all;
+    same("clear", berth_board_clear(board), 1);
+    for (int started = 0; started < 2; started++) {
+        if (started)
+            make_board(board);
+        lend_buffers(&lent, board);
+        all = lent;
+        for (size_t i = 0; i < sizeof ceilings / sizeof *ceilings; i++) {
+            if (!started)
+                same_search("search without a board", board, ceilings[i], first_reply(BERTH_NO_BOARD, 254, 0, NULL, 0));
+            for (int part = 0; part < 3; part++)
+                for (int wrong = 0; wrong < 3; wrong++) {
+                    size_t n[3] = {sizes[0], sizes[1], sizes[2]};
+                    n[part] = wrong == 0 ? 0 : wrong == 1 ? n[part] - 1 : n[part] + 1;
+                    struct berth_first_reply reply =
+                        berth_first_plan(board->value.value, lent.rows, n[0], lent.killers, n[1], lent.slots, n[2], ceilings[i]);
+                    same_first("buffer before the board", reply, first_reply(BERTH_BUFFER_LENGTH, 254, 0, NULL, 0));
+                }
+        }
+        same("memory that was lent for a refused search", memcmp(&lent, &all, sizeof all), 0);
+    }
+    same_found("search after the refused ones", board, 2, (const uint8_t[]){0, 0}, 2);
+}
+
+/* The plan of a mark is found again after a back, and others between: where a rule is put, and where calls are cancelled. */
+static void search_after_back(struct berth_board *board) {
+    same("clear", berth_board_clear(board), 1);
+    make_triangle(board);
+    same("lift", berth_board_lift(board, 2).number, 0);
+    same_mark(board, 1);
+    same_found("first plan at a mark", board, 4, (const uint8_t[]){0, 1, 0}, 3);
+    same_put(board, 9, (const uint8_t[]){2}, 1, (const uint8_t[]){1}, 1, 3);
+    same_found("first plan under another rule", board, 3, (const uint8_t[]){1, 0, 1}, 3);
+    same("back", berth_board_back(board, 1).number, 0);
+    same_found("first plan after a back", board, 4, (const uint8_t[]){0, 1, 0}, 3);
+    same("cancel", berth_board_cancel(board, 1).number, 0);
+    same_found("first plan after a cancel", board, 2, (const uint8_t[]){0, BERTH_NONE, 0}, 3);
+    same("back", berth_board_back(board, 1).number, 0);
+    same_found("first plan after another back", board, 4, (const uint8_t[]){0, 1, 0}, 3);
+}
+
 /* A command on a board of any contents writes nothing beside the value, the names, the marks and the table that it is lent, and of names and marks no more than
    it has to; refused, it writes nothing at all. A cancel leaves the value and the rows. */
 static void obey_altered(struct berth_board *board, struct berth_command_bytes made) {
@@ -970,6 +1256,7 @@ static void ask_altered(const struct berth_board *board) {
         check_altered(board, plan);
         make_plan(board, number, plan);
         same("plan without a wrong byte", check_altered(board, plan).number, board->value.value.heads.counts[0] == 0 ? BERTH_NO_BOARD : 0);
+        same_search("search on an altered board", board, number / 4, search_literally(board, number / 4));
     }
     same("an altered board that is asked", memcmp(board, &before, sizeof before), 0);
 }
@@ -1085,6 +1372,43 @@ static void mix_heads(void) {
     same_fence(&fenced);
 }
 
+/* A number below this one, of a sequence that is the same in each run. */
+static uint32_t below(uint32_t count) {
+    static uint32_t state = 1;
+    state ^= state << 13;
+    state ^= state >> 17;
+    state ^= state << 5;
+    return state % count;
+}
+
+/* Any bytes in the value and the buffers, or such as lead far into a search; half of the slots are open, or few. The search ends, and is the literal one. */
+static void strew_bytes(void) {
+    static struct fenced fenced;
+    struct berth_board *board = &fenced.board;
+    long endings[3] = {0, 0, 0};
+    raise_fence(&fenced);
+    memset(board, 0xa5, sizeof *board);
+    for (int round = 0; round < 2000; round++) {
+        uint8_t *parts[] = {(uint8_t *)&board->value.value, board->rows, board->killers, board->slots};
+        const size_t sizes[] = {sizeof board->value.value, BERTH_ROWS, BERTH_KILLERS, BERTH_SLOTS};
+        for (int part = 0; part < 4; part++)
+            for (size_t i = 0; i < sizes[part]; i++)
+                parts[part][i] = (uint8_t)(round % 2 ? below(256) : below(8) ? below(3) : altered_bytes[below(sizeof altered_bytes)]);
+        for (int i = 0; round % 3 && i < BERTH_SLOTS; i++)
+            board->slots[i] = below(2) ? BERTH_SLOT_OPEN : board->slots[i];
+        for (int i = 0; round % 4 && i < 64; i++)
+            board->value.value.heads.arity[i] = below(40) ? 0 : board->value.value.heads.arity[i];
+        uint32_t ceiling = below(4) ? below(200) : below(3);
+        struct berth_first_reply wanted = search_literally(board, ceiling);
+        same_search("search on any bytes", board, ceiling, wanted);
+        if (wanted.number == 0)
+            endings[wanted.ending]++;
+    }
+    for (int ending = 0; ending < 3; ending++)
+        same("searches on any bytes that end in each way", endings[ending] > 100, 1);
+    same_fence(&fenced);
+}
+
 /* A file leaves what its commands leave one by one, up to one that cannot be read; one that is too long changes nothing. */
 static void replay(struct berth_board *board) {
     static const uint8_t lift_without_board[] = {5, 9, 4, 0};
@@ -1123,6 +1447,76 @@ static void replay(struct berth_board *board) {
     same_fence(&fenced);
 }
 
+/* The first plan that is kept of all that the slots of the calls make, in rising order: 1, or 0 where there is none. */
+static int first_kept(const struct berth_board *board, uint8_t *plan, int call) {
+    if (call == 32)
+        return berth_board_check_plan(board, plan, BERTH_PLAN).broken == BERTH_NONE;
+    uint8_t count = board->value.value.heads.counts[call];
+    plan[call] = BERTH_NONE;
+    if (count == 0 || is_off(board, call))
+        return first_kept(board, plan, call + 1);
+    for (plan[call] = 0; plan[call] < count; plan[call]++)
+        if (first_kept(board, plan, call + 1))
+            return 1;
+    return 0;
+}
+
+/* Up to five calls of up to three slots, rules with any rows, gap rules, and now and then a call that is cancelled. What is refused is left out. */
+static void make_random(struct berth_board *board) {
+    uint8_t counts[5], calls[5] = {0, 1, 2, 3, 4}, count = (uint8_t)(1 + below(5));
+    for (int call = 0; call < count; call++)
+        counts[call] = (uint8_t)(below(4) ? 2 : 1 + below(3));
+    same("board", berth_board_start(board, counts, count).number, 0);
+    for (uint32_t rules = below(5); rules > 0; rules--) {
+        uint8_t arity = (uint8_t)(1 + below(count < 4 ? count : 4)), row[4];
+        for (uint8_t k = 0; k < arity; k++) {
+            uint32_t other = k + below((uint32_t)(count - k));
+            uint8_t call = calls[other];
+            calls[other] = calls[k];
+            calls[k] = call;
+        }
+        berth_board_head(board, (uint8_t)below(64), calls, arity);
+        for (uint32_t rows = 2 + below(20); rows > 0; rows--) {
+            for (int k = 0; k < arity; k++)
+                row[k] = (uint8_t)below(counts[calls[k]]);
+            berth_board_row(board, row, arity);
+        }
+        berth_board_put(board);
+        if (below(12) == 0)
+            berth_board_cancel(board, (uint8_t)below(count));
+    }
+    for (uint32_t gaps = below(6); gaps > 0; gaps--) {
+        berth_board_gap(board, BERTH_APART, (uint8_t)below(64), (uint8_t)below(count), (uint8_t)below(count), 1);
+        berth_board_put(board);
+    }
+}
+
+/* On random boards the search is the literal one, at its count, one below and anywhere, and its plan the first that is kept of all. Some of them have no plan
+   though every slot that is left is supported, and some have one behind slots in vain. */
+static void search_random(struct berth_board *board) {
+    long none = 0, behind = 0;
+    for (int round = 0; round < 3000; round++) {
+        uint8_t plan[BERTH_PLAN];
+        make_random(board);
+        struct berth_first_reply reply = search_literally(board, UINT32_MAX);
+        int calls = 0;
+        for (int call = 0; call < BERTH_PLAN; call++)
+            calls += reply.plan[call] != BERTH_NONE;
+        search_board(board, UINT32_MAX);
+        search_board(board, reply.trials);
+        search_board(board, below(reply.trials + 1));
+        if (reply.trials > 0)
+            search_board(board, reply.trials - 1);
+        same("a plan is found where one is kept", reply.ending, first_kept(board, plan, 0) ? BERTH_PLAN_FOUND : BERTH_NO_PLAN);
+        if (reply.ending == BERTH_PLAN_FOUND)
+            same("first plan that is kept", memcmp(reply.plan, plan, sizeof plan), 0);
+        none += reply.ending == BERTH_NO_PLAN && reply.trials > 0;
+        behind += reply.ending == BERTH_PLAN_FOUND && reply.trials > (uint32_t)calls;
+    }
+    same("random boards without a plan", none > 50, 1);
+    same("random boards with a plan behind slots in vain", behind > 50, 1);
+}
+
 /* The sizes that the header says, and the library's own. */
 static void measure(void) {
     same("version", (long)berth_version(), BERTH_VERSION);
@@ -1134,6 +1528,7 @@ static void measure(void) {
     same("a record's size", (long)sizeof(struct berth_summary), 3);
     same("size of a command's reply", (long)sizeof(struct berth_command_reply), 32);
     same("size of a replay's reply", (long)sizeof(struct berth_replay_reply), 16);
+    same("size of a search's reply", (long)sizeof(struct berth_first_reply), 40);
 }
 
 /* Every number with its text; berth.rs has to say the same. */
@@ -1164,6 +1559,7 @@ int main(int words, char **word) {
     alter_marks();
     strew_cancelled();
     mix_heads();
+    strew_bytes();
     replay(board);
     support_lowest(board);
     draft_gaps(board);
@@ -1182,6 +1578,13 @@ int main(int words, char **word) {
     check_bytes(board);
     refuse_plans(board);
     check_after_back(board);
+    search_samples(board);
+    search_without_rows(board);
+    search_all_rules(board);
+    search_long(board);
+    refuse_search(board);
+    search_after_back(board);
+    search_random(board);
     same_fence(&fenced);
     printf("header: %s\n", failed ? "FAILED" : "every function answers from C as it should");
     return failed;

@@ -4,8 +4,8 @@
 mod berth;
 
 use berth::{
-    lent, Answer, Board, Draft, Form, Heads, MarkedValue, Name, OpenSlots, PlanCheck, Refusal, Replay, Report, Row,
-    Rule, Slot, Summary, Value,
+    lent, Answer, Board, Draft, FirstPlan, Form, Heads, MarkedValue, Name, OpenSlots, PlanCheck, Refusal, Replay,
+    Report, Row, Rule, Slot, Summary, Value,
 };
 use berth::{KILLERS, MARKS, NONE, PLAN, RECORDS, ROWS, SLOTS};
 
@@ -59,6 +59,7 @@ fn check(board: &Board, slots: &[u8]) -> Answer<PlanCheck> {
     assert!(parts.same(board) && parts.table() == board.summaries(), "a plan changes the board");
     assert_eq!(parts.memory().check_plan(&plan(slots)), answer);
     assert!(parts.same(board) && parts.table() == board.summaries(), "a plan changes what is lent");
+    search_board(board);
     answer
 }
 
@@ -67,6 +68,115 @@ const BAD_BYTE: Answer<PlanCheck> = Err(Refusal::BadPlanByte);
 
 const fn broken(rule: u8) -> Answer<PlanCheck> {
     Ok(PlanCheck::Broken { rule })
+}
+
+/// A search by the words of the order, off memory of any contents: every rule is looked at with each slot that is laid.
+struct Literal<'a> {
+    memory: lent::Memory<'a>,
+    ceiling: u32,
+    trials: u32,
+    plan: [u8; PLAN],
+}
+
+impl Literal<'_> {
+    fn is_off(&self, call: usize) -> bool {
+        self.memory.slots[32 * call] == 253
+    }
+
+    /// Unless the rule has a laid call, and its calls are all laid or cancelled, it asks nothing. It has at most four columns and 64 rows, and calls below 32.
+    fn rule_stays(&self, rule: usize) -> bool {
+        let heads = &self.memory.value.heads;
+        let columns = || {
+            let all = (0..heads.arity[rule].min(4) as usize).map(|k| (k, heads.scope[4 * rule + k] as usize % 32));
+            all.filter(|&(_, call)| !self.is_off(call))
+        };
+        let due = columns().next().is_some() && columns().all(|(_, call)| self.plan[call] != NONE);
+        let fits = |w| columns().all(|(k, call)| self.memory.rows[256 * rule + 4 * w + k] == self.plan[call]);
+        !due || (0..heads.lengths[rule].min(64) as usize).any(fits)
+    }
+
+    /// Lays the calls from one on: whether there is a full plan, unless the ceiling is too low.
+    fn lay(&mut self, call: usize) -> Option<bool> {
+        if call == PLAN {
+            return Some(true);
+        }
+        if self.memory.value.heads.counts[call] == 0 || self.is_off(call) {
+            return self.lay(call + 1);
+        }
+        for slot in (0..32).filter(|slot| self.memory.slots[32 * call + slot] == 255) {
+            if self.trials == self.ceiling {
+                return None;
+            }
+            self.trials += 1;
+            self.plan[call] = slot as u8;
+            let stays = (0..64).all(|rule| self.rule_stays(rule));
+            match if stays { self.lay(call + 1) } else { Some(false) } {
+                Some(false) => (),
+                ending => return ending,
+            }
+        }
+        self.plan[call] = NONE;
+        Some(false)
+    }
+}
+
+fn search_literally(memory: lent::Memory, ceiling: u32) -> Answer<FirstPlan> {
+    if memory.value.heads.counts[0] == 0 {
+        return Err(Refusal::NoBoard);
+    }
+    let mut search = Literal { memory, ceiling, trials: 0, plan: [NONE; PLAN] };
+    let ending = search.lay(0);
+    let Literal { plan, trials, .. } = search;
+    Ok(match ending {
+        Some(true) => FirstPlan::Found { plan, trials },
+        Some(false) => FirstPlan::None { trials },
+        None => FirstPlan::Stopped { trials },
+    })
+}
+
+/// The answer to a search within the ceiling, from the board and from a copy of it that is lent, which is the same. A plan that is found is kept. Nothing changes.
+fn search(board: &Board, ceiling: u32) -> Answer<FirstPlan> {
+    let parts = Parts::of(board, board.summaries());
+    let answer = board.first_plan(ceiling);
+    assert!(parts.same(board) && parts.table() == board.summaries(), "a search changes the board");
+    assert_eq!(parts.memory().first_plan(ceiling), answer);
+    assert!(parts.same(board) && parts.table() == board.summaries(), "a search changes what is lent");
+    if let Ok(FirstPlan::Found { plan, .. }) = answer {
+        assert_eq!(board.check_plan(&plan), KEPT);
+    }
+    answer
+}
+
+/// On a board that only commands wrote it is the literal one.
+fn search_board(board: &Board) {
+    assert_eq!(search(board, 200), search_literally(board.memory(), 200));
+}
+
+fn found(slots: &[u8], trials: u32) -> Answer<FirstPlan> {
+    Ok(FirstPlan::Found { plan: plan(slots), trials })
+}
+
+const fn no_plan(trials: u32) -> Answer<FirstPlan> {
+    Ok(FirstPlan::None { trials })
+}
+
+const fn stopped(trials: u32) -> Answer<FirstPlan> {
+    Ok(FirstPlan::Stopped { trials })
+}
+
+fn trials(answer: Answer<FirstPlan>) -> u32 {
+    match answer {
+        Ok(FirstPlan::Found { trials, .. } | FirstPlan::None { trials } | FirstPlan::Stopped { trials }) => trials,
+        Err(_) => 0,
+    }
+}
+
+/// The search ends so with ceilings from its trials on, and is stopped at those below: at each where they are few.
+fn ends(board: &Board, due: Answer<FirstPlan>) {
+    let trials = trials(due);
+    assert_eq!([trials, trials + 1, u32::MAX].map(|ceiling| search(board, ceiling)), [due; 3]);
+    let step = if trials < 100 { 1 } else { trials - 1 };
+    (0..trials).step_by(step as usize).for_each(|ceiling| assert_eq!(search(board, ceiling), stopped(ceiling)));
 }
 
 fn ask(board: &Board) {
@@ -86,6 +196,7 @@ fn ask(board: &Board) {
     assert_eq!(board.support(5, 1, 0), Err(Refusal::NoSuchColumn));
     let plans = [[0, 0], [1, 1], [0, 1], [1, 0], [0, NONE]];
     assert_eq!(plans.map(|slots| check(board, &slots)), [KEPT, broken(5), broken(0), broken(0), BAD_BYTE]);
+    ends(board, found(&[0, 0], 2));
 }
 
 /// Of rows with the slot in the column, the lowest that lives is given: row 1 where all three live, row 2 while row 1 is dead.
@@ -136,6 +247,9 @@ fn put_gap(board: &mut Board, form: Form, gap: u8, pairs: &[[u8; 2]], open: [u32
     assert_eq!(board.row_state(7, pairs.len() as u8), Err(Refusal::NoSuchRow));
     assert_eq!([0, 1].map(|call| board.open_slots(call).unwrap().mask), open);
     assert_eq!(struck as u32, 7 - open[0].count_ones() - open[1].count_ones());
+    // the first pair's slot of call 0, and those of call 1 up to its other
+    let tried = |pair: &[u8; 2]| 1 + (open[1] << (31 - pair[1])).count_ones();
+    ends(board, pairs.first().map_or(no_plan(0), |pair| found(pair, tried(pair))));
     assert_eq!(board.lift(7).unwrap().reopened, struck);
 }
 
@@ -338,6 +452,7 @@ fn refuse_bytes(board: &mut Board, bytes: &[u8], refusal: Refusal) {
     let before = Parts::of(board, board.summaries());
     assert_eq!(board.command(bytes), Err(refusal), "{bytes:?}");
     assert!(before.same(board) && before.table() == board.summaries());
+    search_board(board);
 }
 
 /// Without a board, with every name that is over 1, and where nothing is kept: each refusal comes before the next.
@@ -368,6 +483,7 @@ fn mark(board: &mut Board, name: u8) {
     due.keep_under(name as usize);
     assert_eq!(board.mark(name), Ok(Report::default()));
     assert!(due.same(board) && due.table() == board.summaries(), "another board after a mark under {name}");
+    search_board(board);
 }
 
 /// A back strikes and reopens so many slots. What was kept is there again, with this table and without a draft, and stays kept.
@@ -377,6 +493,7 @@ fn back(board: &mut Board, name: u8, struck: usize, reopened: usize, table: &[Su
     assert_eq!(board.back(name), Ok(Report { struck, reopened, touched: struck + reopened }));
     assert!(due.same(board) && table == board.summaries(), "another board after a back of {name}");
     assert_eq!(board.put(), Err(Refusal::NoDraft));
+    search_board(board);
 }
 
 /// Two boards are kept and brought back by turns; on the second it is slot 0 of each call that is struck. A new board forgets both, unless it is refused, and so
@@ -522,6 +639,7 @@ fn put(board: &mut Board, number: u8, calls: &[u8], rows: &[&[u8]], struck: usiz
     board.head(number, calls).unwrap();
     rows.iter().for_each(|row| assert_eq!(board.row(row), Ok(Report::default())));
     assert_eq!(board.put(), Ok(report(struck, 0, struck)));
+    search_board(board);
 }
 
 /// Three slots are struck: this rule leaves call 0 its slot 0, and rule 1 passes slot 1 on to call 1. Rule 2 strikes that slot too, but comes too late to be its
@@ -609,6 +727,8 @@ fn check_cancelled_columns() {
             let due = if rest.windows(2).all(|two| two[0] == two[1]) { KEPT } else { broken(9) };
             assert_eq!(check(&board, &slots), due, "{slots:?}");
         }
+        let first = [0, 1, 2, 3].map(|call| if gone(&call) { NONE } else { 0 });
+        ends(&board, found(&first, 4 - (cancelled as u32).count_ones()));
     }
 }
 
@@ -690,6 +810,263 @@ fn check_after_back() {
     assert_eq!([[0, 0], [0, NONE]].map(|slots| check(&board, &slots)), [KEPT, BAD_BYTE]);
 }
 
+/// Two calls of two slots are kept apart.
+fn put_apart(board: &mut Board, number: u8, calls: [u8; 2]) {
+    put(board, number, &calls, &[&[0, 1], &[1, 0]], 0);
+}
+
+/// Three calls of two slots, each two of them apart: every slot is open, and there is no full plan.
+fn triangle() -> Board {
+    let mut board = Board::new();
+    board.start(&[2; 3]).unwrap();
+    put_apart(&mut board, 0, [0, 1]);
+    put_apart(&mut board, 1, [1, 2]);
+    put_apart(&mut board, 2, [0, 2]);
+    board
+}
+
+/// The sample searches S1 to S8 of docs/SCOPE.md, with their ceilings and with others: S1 and S2 are one board.
+fn search_samples() {
+    let mut board = Board::new();
+    assert_eq!(search(&board, 100), Err(Refusal::NoBoard));
+    board.start(&[3, 3, 2]).unwrap();
+    put(&mut board, 0, &[0, 1], &[&[0, 1], &[0, 2], &[1, 2]], 2);
+    assert_eq!([3, 2].map(|ceiling| search(&board, ceiling)), [found(&[0, 1, 0], 3), stopped(2)]);
+    ends(&board, found(&[0, 1, 0], 3));
+    let mut board = triangle();
+    assert_eq!(search(&board, 10), no_plan(10));
+    ends(&board, no_plan(10));
+    board.cancel(1).unwrap();
+    assert_eq!(search(&board, 100), found(&[0, NONE, 1], 3));
+    ends(&board, found(&[0, NONE, 1], 3));
+    board.cancel(0).unwrap();
+    board.cancel(2).unwrap();
+    assert_eq!(search(&board, 0), found(&[], 0));
+    ends(&board, found(&[], 0));
+    board.start(&[2, 2]).unwrap();
+    put(&mut board, 0, &[1], &[], 2);
+    assert_eq!(search(&board, 100), no_plan(2));
+    ends(&board, no_plan(2));
+    board.start(&[2, 2, 3]).unwrap();
+    put_apart(&mut board, 0, [0, 1]);
+    put(&mut board, 1, &[1, 2], &[&[0, 1], &[1, 0], &[0, 2]], 0);
+    put(&mut board, 2, &[0, 2], &[&[0, 1], &[1, 0], &[1, 2]], 0);
+    assert_eq!(search(&board, u32::MAX), found(&[1, 0, 2], 11));
+    ends(&board, found(&[1, 0, 2], 11));
+}
+
+/// Rules without rows. On call 0 one leaves nothing to lay: there is no plan, with 0 trials and with ceiling 0. Where all its calls are cancelled it asks nothing
+/// of the calls that are laid, and nothing where none is. A draft asks nothing either.
+fn search_without_rows() {
+    let mut board = Board::new();
+    board.start(&[2, 3, 2]).unwrap();
+    board.head(63, &[0]).unwrap();
+    ends(&board, found(&[0, 0, 0], 3));
+    put(&mut board, 4, &[0, 1], &[], 5);
+    ends(&board, no_plan(0));
+    board.cancel(0).unwrap();
+    ends(&board, no_plan(0));
+    board.cancel(1).unwrap();
+    ends(&board, found(&[NONE, NONE, 0], 1));
+    board.cancel(2).unwrap();
+    ends(&board, found(&[], 0));
+}
+
+/// The triangle on three of 32 calls, the others with one slot, and under any three neighbouring numbers: a rule is looked at with the last of its calls,
+/// whichever number it has, and wherever its calls are.
+fn search_all_rules() {
+    for number in 0..64 {
+        for ([a, b, c], trials) in [([0, 1, 2], 10), ([29, 30, 31], 39), ([0, 15, 31], 68)] {
+            let mut board = Board::new();
+            board.start(&std::array::from_fn::<u8, 32, _>(|call| 1 + [a, b, c].contains(&(call as u8)) as u8)).unwrap();
+            put_apart(&mut board, number, [c, a]);
+            put_apart(&mut board, (number + 1) % 64, [b, c]);
+            put_apart(&mut board, (number + 2) % 64, [a, b]);
+            ends(&board, no_plan(trials));
+        }
+    }
+}
+
+/// Nine calls of eight slots, each two of them apart: 876,808 trials, which are the ways to lay up to eight different slots, times the eight of the next call.
+fn search_long() {
+    let mut board = Board::new();
+    board.start(&[8; 9]).unwrap();
+    for (number, (first, second)) in (0..9).flat_map(|second| (0..second).map(move |first| (first, second))).enumerate()
+    {
+        board.gap(Form::Apart, number as u8, first, second, 1).unwrap();
+        assert_eq!(board.put(), Ok(Report::default()));
+    }
+    let ways = (0..8).scan(1, |ways, laid| {
+        *ways *= 8 - laid;
+        Some(*ways)
+    });
+    assert_eq!(8 * (1 + ways.sum::<u32>()), 876808);
+    ends(&board, no_plan(876808));
+    board.cancel(3).unwrap();
+    ends(&board, found(&[0, 1, 2, NONE, 3, 4, 5, 6, 7], 36));
+}
+
+/// A buffer of another length is refused before it is seen that there is no board, whatever the ceiling.
+fn refuse_search() {
+    let sizes = [ROWS, KILLERS, SLOTS];
+    let wrong = [0, 1, 2].map(|part| [0, sizes[part] - 1, sizes[part] + 1].map(|wrong| (part, wrong))).concat();
+    for (asked, due) in [(Board::new(), Err(Refusal::NoBoard)), (board(), found(&[0, 0], 2))] {
+        for ceiling in [0, 1, 2, 1000, u32::MAX] {
+            let due = if ceiling < trials(due) { stopped(ceiling) } else { due };
+            assert_eq!(search(&asked, ceiling), due);
+            for &(part, wrong) in &wrong {
+                let [rows, killers, slots] =
+                    [0, 1, 2].map(|other| vec![255; if other == part { wrong } else { sizes[other] }]);
+                let memory = lent::Memory { rows: &rows, killers: &killers, slots: &slots, ..asked.memory() };
+                assert_eq!(memory.first_plan(ceiling), Err(Refusal::BufferLength));
+            }
+        }
+    }
+}
+
+/// The plan of a mark is found again after a back, and others between: where a rule is put, and where a call is cancelled.
+fn search_after_back() {
+    let mut board = triangle();
+    board.lift(2).unwrap();
+    mark(&mut board, 1);
+    ends(&board, found(&[0, 1, 0], 4));
+    put(&mut board, 9, &[2], &[&[1]], 3);
+    ends(&board, found(&[1, 0, 1], 3));
+    board.back(1).unwrap();
+    ends(&board, found(&[0, 1, 0], 4));
+    board.cancel(1).unwrap();
+    ends(&board, found(&[0, NONE, 0], 2));
+    board.back(1).unwrap();
+    ends(&board, found(&[0, 1, 0], 4));
+}
+
+/// A sequence of numbers that is the same in each run.
+struct Random(u32);
+
+impl Random {
+    fn below(&mut self, count: u32) -> u32 {
+        self.0 ^= self.0 << 13;
+        self.0 ^= self.0 >> 17;
+        self.0 ^= self.0 << 5;
+        self.0 % count
+    }
+
+    fn byte(&mut self, count: u8) -> u8 {
+        self.below(count as u32) as u8
+    }
+}
+
+/// Up to five calls of up to three slots, rules with any rows, gap rules, and now and then a call that is cancelled. What is refused is left out.
+fn random_board(random: &mut Random) -> Board {
+    let mut board = Board::new();
+    let count = 1 + random.byte(5);
+    let counts: Vec<u8> = (0..count).map(|_| if random.below(4) > 0 { 2 } else { 1 + random.byte(3) }).collect();
+    let mut calls: Vec<u8> = (0..count).collect();
+    board.start(&counts).unwrap();
+    for _ in 0..random.below(5) {
+        let arity = 1 + random.byte(count.min(4));
+        (0..arity).for_each(|k| calls.swap(k as usize, (k + random.byte(count - k)) as usize));
+        let scope = &calls[..arity as usize];
+        let _ = board.head(random.byte(64), scope);
+        for _ in 0..2 + random.below(20) {
+            let row: Vec<u8> = scope.iter().map(|&call| random.byte(counts[call as usize])).collect();
+            let _ = board.row(&row);
+        }
+        let _ = board.put();
+        if random.below(12) == 0 {
+            let _ = board.cancel(random.byte(count));
+        }
+    }
+    for _ in 0..random.below(6) {
+        let _ = board.gap(Form::Apart, random.byte(64), random.byte(count), random.byte(count), 1);
+        let _ = board.put();
+    }
+    board
+}
+
+/// The first plan that is kept of all that the slots of the calls from one on make, in rising order.
+fn first_kept(board: &Board, plan: &mut [u8; PLAN], call: usize) -> bool {
+    if call == PLAN {
+        return board.check_plan(plan) == KEPT;
+    }
+    plan[call] = NONE;
+    if matches!(board.slot_state(call as u8, 0), Ok(Slot::Cancelled) | Err(_)) {
+        return first_kept(board, plan, call + 1);
+    }
+    (0..board.memory().value.heads.counts[call]).any(|slot| {
+        plan[call] = slot;
+        first_kept(board, plan, call + 1)
+    })
+}
+
+/// On random boards the search is the literal one, at its count, one below and anywhere, and its plan the first that is kept of all. Some of them have no plan
+/// though every slot that is left is supported, and some have one behind slots in vain.
+fn search_random() {
+    let mut random = Random(2);
+    let (mut none, mut behind) = (0, 0);
+    for _ in 0..2000 {
+        let board = random_board(&mut random);
+        let due = search_literally(board.memory(), u32::MAX);
+        let trials = trials(due);
+        for ceiling in [u32::MAX, trials, trials.saturating_sub(1), random.below(trials + 1)] {
+            assert_eq!(search(&board, ceiling), if ceiling < trials { stopped(ceiling) } else { due });
+        }
+        let mut kept = [NONE; PLAN];
+        match (first_kept(&board, &mut kept, 0), due) {
+            (true, Ok(FirstPlan::Found { plan, .. })) => {
+                assert_eq!(plan, kept);
+                behind += (trials as usize > plan.iter().filter(|slot| **slot != NONE).count()) as u32;
+            }
+            (kept, due) => {
+                assert_eq!((kept, due), (false, no_plan(trials)));
+                none += (trials > 0) as u32;
+            }
+        }
+    }
+    assert!(none > 50 && behind > 50, "{none} boards without a plan, {behind} with one behind slots in vain");
+}
+
+/// Any bytes in the value and the buffers, or such as lead far into a search; half of the slots are open, or few. The search ends, and is the literal one.
+fn strew_bytes(board: &Board) {
+    let some = [0, 1, 3, 4, 31, 32, 63, 64, 200, 253, 254, 255];
+    let mut random = Random(3);
+    let mut endings = [0; 3];
+    for round in 0..1000 {
+        let mut byte = || match round % 2 {
+            1 => random.below(256) as u8,
+            _ if random.below(8) > 0 => random.byte(3),
+            _ => some[random.below(12) as usize],
+        };
+        let mut parts = Parts::of(board, board.summaries());
+        let heads = &mut parts.value.value.heads;
+        heads.counts.fill_with(&mut byte);
+        heads.arity.fill_with(&mut byte);
+        heads.scope.fill_with(&mut byte);
+        heads.lengths.fill_with(&mut byte);
+        parts.rows.fill_with(&mut byte);
+        parts.killers.fill_with(&mut byte);
+        parts.slots.fill_with(&mut byte);
+        if round % 3 > 0 {
+            parts.slots.iter_mut().filter(|_| random.below(2) == 0).for_each(|slot| *slot = 255);
+        }
+        if round % 4 > 0 {
+            heads.arity.iter_mut().filter(|_| random.below(40) > 0).for_each(|arity| *arity = 0);
+        }
+        let before = parts.clone();
+        let ceiling = random.below(200);
+        let answer = parts.memory().first_plan(ceiling);
+        assert_eq!(answer, search_literally(before.memory(), ceiling));
+        assert!(parts == before, "a search changes any bytes");
+        match answer {
+            Ok(FirstPlan::None { .. }) => endings[0] += 1,
+            Ok(FirstPlan::Found { .. }) => endings[1] += 1,
+            Ok(FirstPlan::Stopped { .. }) => endings[2] += 1,
+            Err(refusal) => assert_eq!(refusal, Refusal::NoBoard),
+        }
+    }
+    assert!(endings.iter().all(|&times| times > 50), "{endings:?}");
+}
+
 /// Heads that hold nothing but this byte, and a whole value.
 fn heads_of(byte: u8) -> Heads {
     Heads { counts: [byte; 32], arity: [byte; 64], scope: [byte; 256], lengths: [byte; 64] }
@@ -714,7 +1091,7 @@ fn filled(kept: &Parts, byte: u8) -> [Parts; 5] {
 }
 
 /// On altered memory a plan is kept, breaks a rule, or is refused for no board or a wrong byte, and nothing is written. The second plan has no wrong byte,
-/// whatever the memory holds: this slot of each call, or its last.
+/// whatever the memory holds: this slot of each call, or its last. A search is the literal one.
 fn check_altered(parts: &Parts) {
     let (before, memory) = (parts.clone(), parts.memory());
     for slot in [0, 1, 31, 63, 255] {
@@ -732,8 +1109,10 @@ fn check_altered(parts: &Parts) {
             assert!(possible, "{answer:?}");
         }
         assert_ne!(answers[1], BAD_BYTE, "{slots:?}");
+        let ceiling = slot as u32 / 4;
+        assert_eq!(memory.first_plan(ceiling), search_literally(memory, ceiling));
     }
-    assert!(*parts == before, "a plan changes altered memory");
+    assert!(*parts == before, "a plan or a search changes altered memory");
 }
 
 /// On altered memory commands return and leave the fences, and only a mark writes names and marks; a cancellation leaves the value and the rows; one that is
@@ -940,6 +1319,7 @@ fn main() {
     alter(&board);
     strew_cancelled(&board);
     mix_heads(&board);
+    strew_bytes(&board);
     replay(&mut board);
     support_lowest();
     draft_gaps();
@@ -957,6 +1337,13 @@ fn main() {
     check_bytes();
     refuse_plans();
     check_after_back();
+    search_samples();
+    search_without_rows();
+    search_all_rules();
+    search_long();
+    refuse_search();
+    search_after_back();
+    search_random();
     name();
     println!("wrapper: every function answers from Rust as it should");
 }

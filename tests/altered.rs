@@ -1,11 +1,12 @@
 //! Commands and questions on memory with any contents and of any lengths: every call returns, nothing outside of it changes, a refusal changes nothing, and
 //! marks are written and brought back as ever; a cancellation leaves what it always leaves. (host.rs asserts it of each command.) A new board has its table
-//! then, too. A plan gets the reply that the bytes give it.
+//! then, too. A plan gets the reply that the bytes give it, and so does the question for the first full plan, which is asked under low ceilings.
 
 use crate::berth::lent::Memory;
 use crate::berth::{MarkedValue, Slot, Summary};
 use crate::filter::all_slots;
-use crate::host::{number_of, Fenced, Host, PlanReply};
+use crate::first::{search_first, End, FirstSearch};
+use crate::host::{first_plan, number_of, Fenced, FirstReply, Host, PlanReply};
 use crate::ledger::{Ledger, BACK, BOARD, CANCEL, LAST_KIND, LENGTHS, LIFT, MARK, PUT};
 use crate::random::Random;
 use crate::summary::{self, table_of};
@@ -14,6 +15,9 @@ use std::collections::BTreeMap;
 
 const HOSTS: u64 = 6000;
 const COMMANDS: usize = 6;
+
+/// The trials that a search for the first full plan makes before it is given up, and no ceiling is over it.
+const MOST: u32 = 150;
 
 /// Bytes of one sort: any, small ones, limits, all the same, or few among 255 or 0.
 fn some_bytes(random: &mut Random, length: usize) -> Vec<u8> {
@@ -143,11 +147,15 @@ fn rows_of<'a>(memory: Memory<'a>, p: usize) -> impl Iterator<Item = &'a [u8]> {
     memory.rows[256 * p..][..4 * length].chunks(4)
 }
 
+/// Some row of rule p has the plan's slots in these columns.
+fn is_fitted(memory: Memory, p: usize, columns: &[(usize, usize)], plan: &[u8]) -> bool {
+    rows_of(memory, p).any(|row| columns.iter().all(|(k, call)| row[*k] == plan[*call]))
+}
+
 /// Some column of rule p counts, and no row has the plan's slots in all that do.
 fn is_broken(memory: Memory, p: usize, plan: &[u8]) -> bool {
     let columns = columns_of(memory, p);
-    let fits = |row: &[u8]| columns.iter().all(|(k, call)| row[*k] == plan[*call]);
-    !columns.is_empty() && !rows_of(memory, p).any(fits)
+    !columns.is_empty() && !is_fitted(memory, p, &columns, plan)
 }
 
 /// The reply to a plan, by nothing but the bytes.
@@ -195,9 +203,41 @@ fn some_plan(random: &mut Random, memory: Memory) -> Vec<u8> {
     plan
 }
 
+/// The search for the first full plan, by nothing but the bytes: a call is laid where it has slots, and any of its 32 slots is open whose byte says so.
+fn search_bytes(memory: Memory) -> FirstSearch {
+    let calls: Vec<u8> = (0..32).filter(|call| slots_for(memory, *call as usize) != 0).collect();
+    let columns: Vec<Vec<(usize, usize)>> = (0..64).map(|p| columns_of(memory, p)).collect();
+    let is_open = |call: u8, slot: u8| memory.slots[32 * call as usize + slot as usize] == 255;
+    let stays = |plan: &[u8; 32]| {
+        let is_laid = |(_, call): &(usize, usize)| plan[*call] != 255;
+        let is_due = |p: usize| columns[p].iter().any(is_laid) && columns[p].iter().all(is_laid);
+        (0..64).all(|p| !is_due(p) || is_fitted(memory, p, &columns[p], plan))
+    };
+    search_first(&calls, is_open, stays, MOST)
+}
+
+/// The first full plan under some ceilings. Returns a reply: where it is not refused, that under the highest of them.
+fn ask_first(random: &mut Random, host: &Host) -> FirstReply {
+    let memory = host.memory();
+    let refusal = match host.lengths().question_refusal() {
+        0 if memory.value.heads.counts[0] == 0 => 6,
+        number => number,
+    };
+    if refusal != 0 {
+        let ceiling = *random.choose(&[0, MOST, u32::MAX]);
+        let due = FirstReply { number: refusal, ..FirstReply::REFUSED };
+        assert_eq!(first_plan(memory, ceiling), due, "the refusal of the first plan under the ceiling {ceiling}");
+        return due;
+    }
+    let search = search_bytes(memory);
+    let ceilings = search.ceilings(random);
+    search.check(memory, &ceilings);
+    search.reply(if search.end == End::GivenUp { MOST } else { u32::MAX })
+}
+
 /// All questions with any numbers. None changes anything; the row's bytes are a part of the buffer, and the empty part where the row's state is refused; a slot
-/// is cancelled where its byte says so. Returns the reply to a plan.
-fn ask(random: &mut Random, plan_random: &mut Random, host: &Host) -> PlanReply {
+/// is cancelled where its byte says so. Returns the reply to a plan, and that for the first full one.
+fn ask(random: &mut Random, plan_random: &mut Random, host: &Host) -> (PlanReply, FirstReply) {
     let before = host.clone();
     let n = some_bytes(random, 7);
     let memory = host.memory();
@@ -212,8 +252,9 @@ fn ask(random: &mut Random, plan_random: &mut Random, host: &Host) -> PlanReply 
     let plan = some_plan(plan_random, memory);
     let reply = host.check_plan(&plan);
     assert_eq!(reply, plan_reply(host, &plan), "the reply to the plan {plan:?}");
+    let first = ask_first(&mut Random(!plan_random.0), host);
     assert!(*host == before, "a question changes something");
-    reply
+    (reply, first)
 }
 
 /// A new board is the same on any memory, so its table is current.
@@ -236,9 +277,58 @@ fn check_replies(replies: &BTreeMap<(u8, u8), usize>) {
     println!("plans on altered memory: {kept} kept, {broken} that break {numbers} rules, {refused:?} refused");
 }
 
+/// First full plans on altered memory, by what the search came to.
+#[derive(Debug, Default)]
+struct FirstSeen {
+    found: usize,
+    /// found after more than 32 trials
+    long: usize,
+    /// found with a slot for a call that has more than 32
+    over_32_slots: usize,
+    /// found with a slot that is not below the call's count
+    past_count: usize,
+    nothing: usize,
+    /// nothing, with a slot laid
+    laid: usize,
+    stopped: usize,
+    /// under 1 and under 6
+    refused: [usize; 2],
+}
+
+impl FirstSeen {
+    fn count(&mut self, reply: &FirstReply, counts: &[u8; 32]) {
+        let laid = || counts.iter().zip(&reply.plan).filter(|(_, slot)| **slot != 255);
+        match (reply.number, reply.ending) {
+            (0, 0) => {
+                self.nothing += 1;
+                self.laid += (reply.trials > 0) as usize;
+            }
+            (0, 1) => {
+                self.found += 1;
+                self.long += (reply.trials > 32) as usize;
+                self.over_32_slots += laid().any(|(count, _)| *count > 32) as usize;
+                self.past_count += laid().any(|(count, slot)| slot >= count) as usize;
+            }
+            (0, _) => self.stopped += 1,
+            (number, _) => self.refused[(number == 6) as usize] += 1,
+        }
+    }
+
+    fn check(&self) {
+        let FirstSeen { found, long, over_32_slots, past_count, nothing, laid, stopped, refused } = self;
+        let all = [*found, *long, *over_32_slots, *past_count, *nothing, *laid, *stopped];
+        assert!(!all.contains(&0) && !refused.contains(&0), "first plans on altered memory: {self:?}");
+        print!(
+            "first plans on altered memory: {found} found, {long} after over 32 trials, {over_32_slots} with a count "
+        );
+        print!("over 32, {past_count} with a slot past the count; {nothing} searches for nothing, {laid} that lay a ");
+        println!("slot; {stopped} stopped, {refused:?} refused");
+    }
+}
+
 pub fn run(left: &[Host]) {
     let mut accepted = [0; LAST_KIND as usize + 1];
-    let mut replies = BTreeMap::new();
+    let (mut replies, mut first) = (BTreeMap::new(), FirstSeen::default());
     for seed in 0..HOSTS {
         crate::place::list("altered memory", seed);
         let (random, plan_random) = (&mut Random(seed), &mut Random(!seed));
@@ -250,13 +340,15 @@ pub fn run(left: &[Host]) {
                 accepted[bytes[0] as usize] += 1;
                 check_new_board(&host, &bytes);
             }
-            let PlanReply { number, broken } = ask(random, plan_random, &host);
+            let (PlanReply { number, broken }, reply) = ask(random, plan_random, &host);
             *replies.entry((number, broken)).or_insert(0) += 1;
+            first.count(&reply, &host.value.value.heads.counts);
         }
     }
     let accepted = &accepted[1..];
     assert!(!accepted.contains(&0), "a kind was never accepted: {accepted:?}");
     let commands = HOSTS as usize * COMMANDS;
-    println!("altered memory: {commands} commands, accepted by kind {accepted:?}; {} questions", 6 * commands);
+    println!("altered memory: {commands} commands, accepted by kind {accepted:?}; {} questions", 7 * commands);
     check_replies(&replies);
+    first.check();
 }

@@ -2,6 +2,8 @@
 //! few boards with many rules have a full plan.
 
 use crate::berth::{Board, PlanCheck};
+use crate::filter::open_slots;
+use crate::first::{search_board, End};
 use crate::ledger::{Ledger, CANCEL, LENGTHS, ROW};
 use crate::plans::{broken_rules, filled, Plan};
 use crate::random::Random;
@@ -9,10 +11,13 @@ use crate::writer::{self, Writer, SIZES};
 
 const BOARDS: u64 = 400;
 
+/// The trials that a search makes before it is given up.
+const MOST: u32 = 3000;
+
 /// The board, and the ledger of the same commands.
-struct Both {
-    board: Board,
-    ledger: Ledger,
+pub struct Both {
+    pub board: Board,
+    pub ledger: Ledger,
 }
 
 /// What was seen of plans; each of it has to be.
@@ -23,11 +28,19 @@ struct Seen {
     kept_with_cancelled: usize,
     broken: usize,
     last_rule_broken: usize,
+    first: usize,
+    first_of_64_rules: usize,
+    first_with_cancelled: usize,
+    given_up: usize,
 }
 
 impl Both {
+    pub fn new() -> Self {
+        Both { board: Board::new(), ledger: Ledger::default() }
+    }
+
     /// Refused commands are left out.
-    fn send(&mut self, bytes: &[u8]) {
+    pub fn send(&mut self, bytes: &[u8]) {
         if self.ledger.refusal(LENGTHS, bytes) == 0 {
             self.ledger.obey(bytes);
             self.board.command(bytes).unwrap();
@@ -64,14 +77,29 @@ impl Both {
             seen.broken += broken.is_some() as usize;
             seen.last_rule_broken += (broken == Some(63)) as usize;
         }
+        self.check_first(&mut Random(!random.0), plan, seen);
+    }
+
+    /// The first full plan is the one that the board is made around, or comes before it.
+    fn check_first(&self, random: &mut Random, plan: Plan, seen: &mut Seen) {
+        let search = search_board(&self.ledger, &open_slots(&self.ledger), MOST);
+        let ceilings = search.ceilings(random);
+        search.check(self.board.memory(), &ceilings);
+        let found = search.plan();
+        assert!(search.end != End::Nothing, "there is the full plan {plan:?}");
+        assert!(found.is_none_or(|found| found <= plan), "the plan {plan:?} comes before the first plan {found:?}");
+        seen.first += found.is_some() as usize;
+        seen.first_of_64_rules += (found.is_some() && self.ledger.rules.len() == 64) as usize;
+        seen.first_with_cancelled += (found.is_some() && !self.ledger.cancelled.is_empty()) as usize;
+        seen.given_up += found.is_none() as usize;
     }
 }
 
-/// A board is asked about its plan when it has all its rules, and again when calls are cancelled.
+/// A board is asked about its plan, and for the first one, when it has all its rules, and again when calls are cancelled.
 fn check_board(seed: u64, seen: &mut Seen) {
     let sizes = &SIZES[seed as usize % SIZES.len()];
     let mut writer = Writer::new(seed, sizes);
-    let mut both = Both { board: Board::new(), ledger: Ledger::default() };
+    let mut both = Both::new();
     both.send(&writer::board(&mut writer.random, sizes));
     let mut plan = filled(&mut writer.random, &both.ledger, [255; 32]);
     for _ in 0..writer.random.between((1, 2 * sizes.numbers)) {
@@ -93,9 +121,13 @@ pub fn run() {
         crate::place::list("boards around a plan", seed);
         check_board(seed, &mut seen);
     }
-    let Seen { kept, kept_of_64_rules, kept_with_cancelled, broken, last_rule_broken } = seen;
+    let Seen { kept, kept_of_64_rules, kept_with_cancelled, broken, last_rule_broken, .. } = seen;
+    let Seen { first, first_of_64_rules, first_with_cancelled, given_up, .. } = seen;
     let all = [kept, kept_of_64_rules, kept_with_cancelled, broken, last_rule_broken];
-    assert!(!all.contains(&0), "boards around a plan: {seen:?}");
+    let all_of_first = [first, first_of_64_rules, first_with_cancelled, given_up];
+    assert!(!all.contains(&0) && !all_of_first.contains(&0), "boards around a plan: {seen:?}");
     print!("boards around a plan: {kept} plans kept, {kept_of_64_rules} with 64 rules, {kept_with_cancelled} with ");
     println!("cancelled calls; {broken} broken, {last_rule_broken} by rule 63 alone");
+    print!("first plans on such boards: {first}, {first_of_64_rules} with 64 rules, {first_with_cancelled} with ");
+    println!("cancelled calls; {given_up} searches given up");
 }

@@ -1,8 +1,9 @@
 //! Cancelled calls: what is done with them in lists, counted, since each of it has to happen; and pairs of lists that cancel calls at other times, or more of
-//! them. The library is asked about every plan of the boards that these pairs leave.
+//! them. The library is asked about every plan of the boards that these pairs leave, and for the first full one.
 
 use crate::berth::{Answer, Board, PlanCheck, Report};
-use crate::filter::Slots;
+use crate::filter::{has, open_slots, Slots};
+use crate::first::{laid_calls, search_board, stays, End};
 use crate::host::number_of;
 use crate::ledger::{Cancelled, Ledger, Rule, BACK, BOARD, CANCEL, GAP, HEAD, LIFT, MARK, PUT, ROW};
 use crate::occurrences::Occurrences;
@@ -199,7 +200,13 @@ impl Ending<'_> {
         board
     }
 
-    /// Every choice of a slot for each call, with none for a cancelled call.
+    fn ledger(&self) -> Ledger {
+        let in_force = (0..).zip(self.rules).zip(&self.in_force).filter(|(_, in_force)| **in_force);
+        let rules = in_force.map(|((number, rule), _)| (number, rule.clone())).collect();
+        Ledger { counts: self.counts.to_vec(), cancelled: self.cancelled.clone(), rules, ..Ledger::default() }
+    }
+
+    /// Every choice of a slot for each call, with none for a cancelled call. At the first call where two of them differ, the one with the lower slot comes first.
     fn plans(&self) -> Vec<Plan> {
         let mut plans: Vec<Plan> = vec![vec![]];
         for (call, count) in (0..).zip(self.counts) {
@@ -238,8 +245,10 @@ fn open(board: &Board, call: usize) -> u32 {
 }
 
 /// The library says "kept" of the full plans, and of the others names the lowest rule that is broken. No full plan uses a struck slot.
-fn check_plans(board: &Board, ending: &Ending, seen: &mut Seen) {
-    for plan in &ending.plans() {
+fn check_plans(random: &mut Random, board: &Board, ending: &Ending, seen: &mut Seen) {
+    let plans = ending.plans();
+    check_first(random, board, ending, plans.iter().find(|plan| ending.broken(plan).is_none()), seen);
+    for plan in &plans {
         let broken = ending.broken(plan);
         let due = broken.map_or(PlanCheck::Kept, |rule| PlanCheck::Broken { rule });
         assert_eq!(board.check_plan(&bytes_of(plan)), Ok(due), "the plan {plan:?}");
@@ -258,12 +267,50 @@ fn check_open(board: &Board, plan: &Plan) {
     }
 }
 
+/// How many plans are laid in part up to this full one, or in all where there is none: call after call, each that stays gets every open slot of the next call.
+fn parts_up_to(ledger: &Ledger, open: &Slots, last: Option<[u8; 32]>) -> usize {
+    let (mut parts, mut laid) = (vec![[255; 32]], 0);
+    for call in laid_calls(ledger) {
+        let slots = || (0..32).filter(|slot| has(open, (call, *slot)));
+        let with = |part: &[u8; 32], slot: u8| {
+            let mut longer = *part;
+            longer[call as usize] = slot;
+            longer
+        };
+        let longer: Vec<[u8; 32]> =
+            parts.iter().flat_map(|part| slots().map(|slot| with(part, slot)).collect::<Vec<_>>()).collect();
+        let is_up_to = |part: &&[u8; 32]| last.is_none_or(|last| part[..=call as usize] <= last[..=call as usize]);
+        laid += longer.iter().filter(is_up_to).count();
+        parts = longer.into_iter().filter(|part| stays(ledger, part)).collect();
+    }
+    laid
+}
+
+/// The search finds the first of all full plans, or that there is none, and its trials are the plans laid in part on the way. The library replies as it says.
+fn check_first(random: &mut Random, board: &Board, ending: &Ending, first: Option<&Plan>, seen: &mut Seen) {
+    let (ledger, first) = (ending.ledger(), first.map(bytes_of));
+    let open = open_slots(&ledger);
+    let search = search_board(&ledger, &open, u32::MAX - 1);
+    assert_eq!(search.end, first.map_or(End::Nothing, End::Found), "the first of all full plans");
+    assert_eq!(search.trials as usize, parts_up_to(&ledger, &open, first), "the trials up to {first:?}");
+    let ceilings = search.ceilings(random);
+    search.check(board.memory(), &ceilings);
+    seen.first_plans += first.is_some() as usize;
+    seen.first_after_back += (first.is_some() && search.back > 1) as usize;
+    seen.searched_for_nothing += (first.is_none() && search.trials > 0) as usize;
+}
+
 /// What was seen of the pairs; each of it has to be.
 #[derive(Debug, Default)]
 struct Seen {
     /// full ones
     plans: usize,
     other_plans: usize,
+    first_plans: usize,
+    /// those behind which the search went back over several calls at once
+    first_after_back: usize,
+    /// searches that lay a slot, and find that there is no full plan
+    searched_for_nothing: usize,
     /// with calls cancelled, and some struck
     struck: usize,
     /// slots open after the first list and struck after the second
@@ -292,8 +339,8 @@ fn check_pair(random: &mut Random, seen: &mut Seen) {
         seen.more_open += (neither && open(&one, call) != open(&two, call)) as usize;
     }
     seen.struck += (!second.cancelled.is_empty() && two.summaries().iter().any(|record| record.struck > 0)) as usize;
-    check_plans(&one, &first, seen);
-    check_plans(&two, &second, seen);
+    check_plans(random, &one, &first, seen);
+    check_plans(random, &two, &second, seen);
 }
 
 pub fn run() {
@@ -302,8 +349,11 @@ pub fn run() {
         crate::place::list("lists that cancel", seed);
         check_pair(&mut Random(seed), &mut seen);
     }
-    let Seen { plans, other_plans, struck, more_open } = seen;
-    assert!(![plans, other_plans, struck, more_open].contains(&0), "lists that cancel: {seen:?}");
+    let Seen { plans, other_plans, first_plans, first_after_back, searched_for_nothing, struck, more_open } = seen;
+    let all = [plans, other_plans, first_plans, first_after_back, searched_for_nothing, struck, more_open];
+    assert!(!all.contains(&0), "lists that cancel: {seen:?}");
     print!("lists that cancel: {PAIRS} pairs, {struck} with struck slots, {more_open} calls with more open after the first; ");
     println!("{plans} full plans, {other_plans} others");
+    print!("first plans after such lists: {first_plans}, {first_after_back} after going back over several calls; ");
+    println!("{searched_for_nothing} searches for nothing that lay a slot");
 }

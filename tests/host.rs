@@ -2,7 +2,7 @@
 //! of every command: that a refused one changes nothing, what an accepted one leaves of the names and the marks, and what a cancellation leaves.
 
 use crate::berth::lent::{self, Memory};
-use crate::berth::{Answer, Draft, Heads, MarkedValue, Name, Refusal, Replay, Report, Rule, Summary, Value};
+use crate::berth::{Answer, Draft, Heads, MarkedValue, Name, Refusal, Replay, Report, Rule, Summary, Value, PLAN};
 use crate::ledger::{Kept, Ledger, Lengths, Rules, BACK, BOARD, CANCEL, LENGTHS, MARK};
 use std::ops::Range;
 
@@ -101,9 +101,47 @@ impl PlanReply {
     pub const KEPT: PlanReply = PlanReply { number: 0, broken: 255 };
 }
 
+/// The library's reply to the question for the first full plan, with all that a refused one has.
+#[repr(C)]
+#[derive(Clone, Copy, Debug, PartialEq)]
+pub struct FirstReply {
+    pub trials: u32,
+    pub number: u8,
+    pub ending: u8,
+    pub plan: [u8; PLAN],
+}
+
+impl FirstReply {
+    pub const NOTHING: FirstReply = FirstReply { trials: 0, number: 0, ending: 0, plan: [255; 32] };
+    pub const FOUND: FirstReply = FirstReply { ending: 1, ..FirstReply::NOTHING };
+    pub const STOPPED: FirstReply = FirstReply { ending: 2, ..FirstReply::NOTHING };
+    pub const REFUSED: FirstReply = FirstReply { ending: 254, ..FirstReply::NOTHING };
+}
+
+// berth.rs declares both with structs of its own, of the same layout
+#[allow(clashing_extern_declarations)]
 #[rustfmt::skip]
 extern "C" {
+    fn berth_first_plan(value: Value, rows: *const u8, r: usize, killers: *const u8, k: usize, slots: *const u8, s: usize, ceiling: u32) -> FirstReply;
     fn berth_check_plan(value: Value, rows: *const u8, r: usize, killers: *const u8, k: usize, slots: *const u8, s: usize, plan: *const u8, p: usize) -> PlanReply;
+}
+
+/// The reply to the question for the first full plan, under a ceiling.
+pub fn first_plan(memory: Memory, ceiling: u32) -> FirstReply {
+    let Memory { value, rows, killers, slots } = memory;
+    // SAFETY: each pointer is a slice's, with that slice's length.
+    unsafe {
+        berth_first_plan(
+            *value,
+            rows.as_ptr(),
+            rows.len(),
+            killers.as_ptr(),
+            killers.len(),
+            slots.as_ptr(),
+            slots.len(),
+            ceiling,
+        )
+    }
 }
 
 /// The number in the refusal table; 0 of an answer.

@@ -254,6 +254,11 @@ impl Ledger {
         fitting.map(|(a, b)| [a as u8, b as u8, 255, 255]).collect()
     }
 
+    /// Of the question for the first full plan.
+    pub fn first_plan_refusal(&self) -> u8 {
+        first(&[(6, self.no_board())])
+    }
+
     /// Of a cancellation, and of a question about a call.
     pub fn call_refusal(&self, call: u8) -> u8 {
         first(&[(6, self.no_board()), (18, self.count(call) == 0)])

@@ -1,6 +1,6 @@
 //! Tests of the board as users have it, the static library and the sheet program, against a second account of the board that shares no code with it: a ledger
-//! (ledger.rs), a filter from scratch (filter.rs), a count of its slots and rules (summary.rs), a check of plans (plans.rs) and a writer of sheets (sheet.rs).
-//! Seeds are fixed. They run in the repository's folder; tests/run builds what they need.
+//! (ledger.rs), a filter from scratch (filter.rs), a count of its slots and rules (summary.rs), a check of plans (plans.rs), a search for the first
+//! full plan (first.rs) and a writer of sheets (sheet.rs). Seeds are fixed. They run in the repository's folder; tests/run builds what they need.
 //!
 //!     tests [samples | lists | sheets | broken]
 //!
@@ -8,10 +8,12 @@
 
 mod altered;
 mod around;
+mod backtracking;
 #[path = "../hosts/berth.rs"]
 mod berth;
 mod cancelled;
 mod filter;
+mod first;
 mod gaps;
 mod host;
 mod ledger;
@@ -51,6 +53,7 @@ fn main() {
         gaps::run(&left);
         cancelled::run();
         around::run();
+        backtracking::run();
     }
     if matches!(&word[..], "" | "sheets") {
         sheet::run(&mut tally);

@@ -1,8 +1,9 @@
-//! The six questions, five of them asked with numbers near what there is and with any: refused as the ledger says, and answered as the open slots and the
-//! recorded bytes say. plans.rs asks the sixth. None changes anything.
+//! The seven questions, five of them asked with numbers near what there is and with any: refused as the ledger says, and answered as the open slots and the
+//! recorded bytes say. plans.rs asks the sixth and first.rs the seventh. None changes anything.
 
 use crate::berth::{Answer, Row, Slot};
 use crate::filter::{has, is_alive};
+use crate::first;
 use crate::host::{number_of, Fenced, Host};
 use crate::ledger::Ledger;
 use crate::plans;
@@ -28,7 +29,7 @@ fn some_numbers(random: &mut Random, ledger: &Ledger) -> Numbers {
     Numbers { call, slot: random.near(slots), rule, row: random.near(rows), column: random.near(4) }
 }
 
-/// All six; now and then a buffer of another length is lent. The plans are made of random numbers of their own.
+/// All seven; now and then a buffer of another length is lent. The plans are made of random numbers of their own, and so are the ceilings.
 pub fn ask(random: &mut Random, plan_random: &mut Random, session: &mut Session) {
     let numbers = &some_numbers(random, &session.ledger);
     let right = random.percent(2).then(|| session.host.clone());
@@ -42,6 +43,7 @@ pub fn ask(random: &mut Random, plan_random: &mut Random, session: &mut Session)
     session.ask_row_bytes(numbers);
     session.ask_support(numbers);
     plans::ask(plan_random, session);
+    first::ask(&mut Random(!plan_random.0), session);
     assert!(session.host == before, "a question changes something");
     session.host = right.unwrap_or(before);
 }

@@ -1,9 +1,9 @@
-//! Samples whose values are written out: the texts in samples/, whose sheets stand beside them, the sample boards (SCOPE 8), gap rules, marks, cancelled calls
-//! and plans.
+//! Samples whose values are written out: the texts in samples/, whose sheets stand beside them, the sample boards (SCOPE 8), gap rules, marks, cancelled calls,
+//! plans and first plans.
 
 use crate::berth::lent::Memory;
 use crate::berth::{Board, PlanCheck, Row, Slot, Summary};
-use crate::host::number_of;
+use crate::host::{first_plan, number_of, FirstReply};
 use crate::ledger::{BACK, CANCEL, GAP, HEAD, LAST_KIND, MARK};
 use crate::sheet::{check_total, program_writes, sheet_of};
 use crate::tally::Tally;
@@ -494,6 +494,101 @@ fn check_plan_refusals() {
     assert_eq!(broken(&board, &[3, 255, 31]), None);
 }
 
+/// The rows that keep two calls of two slots apart.
+const APART: [&[u8]; 2] = [&[0, 1], &[1, 0]];
+
+/// Three calls of two slots, each two of them apart: every slot is open.
+fn triangle() -> Board {
+    let mut board = Board::new();
+    board.start(&[2, 2, 2]).unwrap();
+    put(&mut board, 0, &[0, 1], &APART, 0);
+    put(&mut board, 1, &[1, 2], &APART, 0);
+    put(&mut board, 2, &[0, 2], &APART, 0);
+    board
+}
+
+/// The plan with these slots for the first calls is the first, after so many trials.
+fn found(first: &[u8], trials: u32) -> FirstReply {
+    FirstReply { trials, plan: plan_of(first).try_into().unwrap(), ..FirstReply::FOUND }
+}
+
+fn nothing(trials: u32) -> FirstReply {
+    FirstReply { trials, ..FirstReply::NOTHING }
+}
+
+fn stopped(trials: u32) -> FirstReply {
+    FirstReply { trials, ..FirstReply::STOPPED }
+}
+
+/// The reply under a ceiling. The board is the same after it, to the byte.
+fn ask_first(board: &Board, ceiling: u32) -> FirstReply {
+    let Memory { value, rows, killers, slots } = board.memory();
+    let before = (*value, rows.to_vec(), killers.to_vec(), slots.to_vec());
+    let reply = first_plan(board.memory(), ceiling);
+    assert_eq!((*value, rows.to_vec(), killers.to_vec(), slots.to_vec()), before, "the question writes something");
+    reply
+}
+
+/// S1 to S7.
+fn check_first_plans() {
+    let mut board = Board::new();
+    board.start(&[3, 3, 2]).unwrap();
+    put(&mut board, 0, &[0, 1], &[&[0, 1], &[0, 2], &[1, 2]], 2);
+    assert_eq!(ask_first(&board, 3), found(&[0, 1, 0], 3), "S1");
+    assert_eq!([2, 1, 0].map(|ceiling| ask_first(&board, ceiling)), [2, 1, 0].map(stopped), "S2");
+    let mut board = triangle();
+    assert_eq!([10, 11, u32::MAX].map(|ceiling| ask_first(&board, ceiling)), [nothing(10); 3], "S3");
+    assert_eq!([9, 5, 0].map(|ceiling| ask_first(&board, ceiling)), [9, 5, 0].map(stopped), "S3 with fewer trials");
+    cancel(&mut board, 1, [0, 0]);
+    assert_eq!(ask_first(&board, 100), found(&[0, 255, 1], 3), "S4");
+    cancel(&mut board, 0, [0, 0]);
+    assert_eq!(ask_first(&board, 1), found(&[255, 255, 0], 1), "S4 with one call left");
+    cancel(&mut board, 2, [0, 0]);
+    assert_eq!([0, 1, u32::MAX].map(|ceiling| ask_first(&board, ceiling)), [found(&[], 0); 3], "S5");
+    let mut board = Board::new();
+    board.start(&[2, 2]).unwrap();
+    put(&mut board, 0, &[1], &[], 2);
+    assert_eq!(ask_first(&board, 100), nothing(2), "S6");
+    assert_eq!([2, 1, 0].map(|ceiling| ask_first(&board, ceiling)), [nothing(2), stopped(1), stopped(0)], "S6");
+    let mut board = Board::new();
+    board.start(&[2, 2, 3]).unwrap();
+    put(&mut board, 0, &[0, 1], &APART, 0);
+    put(&mut board, 1, &[1, 2], &[APART[0], APART[1], &[0, 2]], 0);
+    put(&mut board, 2, &[0, 2], &[APART[0], APART[1], &[1, 2]], 0);
+    assert_eq!(ask_first(&board, u32::MAX), found(&[1, 0, 2], 11), "S7");
+    assert_eq!([11, 10].map(|ceiling| ask_first(&board, ceiling)), [found(&[1, 0, 2], 11), stopped(10)], "S7");
+}
+
+/// A call with nothing open in front: nothing is laid, and no ceiling is too low.
+fn check_first_without_trials() {
+    let mut board = Board::new();
+    board.start(&[2, 3]).unwrap();
+    put(&mut board, 9, &[0], &[], 2);
+    assert_eq!([0, u32::MAX].map(|ceiling| ask_first(&board, ceiling)), [nothing(0); 2]);
+}
+
+/// S8, and each buffer with a byte too few or too many, or none at all, with a board and without: 1 comes before 6. A refusal has no trials and no plan.
+fn check_first_refusals() {
+    let refused = |number: u8| FirstReply { number, ..FirstReply::REFUSED };
+    let other_lengths = |board: &Board| {
+        let long = [255; 16385];
+        let Memory { rows, killers, slots, .. } = board.memory();
+        let lengths = |right: usize| [0, right - 1, right + 1];
+        let all =
+            |right: usize, with: &dyn Fn(usize) -> FirstReply| assert_eq!(lengths(right).map(with), [refused(1); 3]);
+        for ceiling in [0, 100, u32::MAX] {
+            let ask = |memory: Memory| first_plan(memory, ceiling);
+            all(rows.len(), &|n| ask(Memory { rows: &long[..n], ..board.memory() }));
+            all(killers.len(), &|n| ask(Memory { killers: &long[..n], ..board.memory() }));
+            all(slots.len(), &|n| ask(Memory { slots: &long[..n], ..board.memory() }));
+        }
+    };
+    let board = Board::new();
+    assert_eq!([0, 100, u32::MAX].map(|ceiling| ask_first(&board, ceiling)), [refused(6); 3], "S8");
+    other_lengths(&board);
+    other_lengths(&triangle());
+}
+
 pub fn run(tally: &mut Tally) {
     crate::place::list("samples", 0);
     check_put_and_lift();
@@ -517,6 +612,11 @@ pub fn run(tally: &mut Tally) {
     check_plans();
     check_plans_without_rows();
     check_plan_refusals();
+    check_first_plans();
+    check_first_without_trials();
+    check_first_refusals();
     check_texts(tally);
-    println!("samples: the sample boards, gap rules, marks, cancelled calls, plans and the texts of samples/");
+    println!(
+        "samples: the sample boards, gap rules, marks, cancelled calls, plans, first plans, the texts of samples/"
+    );
 }

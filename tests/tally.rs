@@ -2,6 +2,7 @@
 
 use crate::berth::Report;
 use crate::cancelled::Cancellations;
+use crate::first::FirstPlans;
 use crate::ledger::{
     Ledger, BACK, BOARD, CANCEL, GAP, HEAD, LAST_KIND, LAST_REFUSAL, LIFT, MARK, NO_REFUSALS, PUT, ROW,
 };
@@ -82,6 +83,7 @@ pub struct Tally {
     pub marks: Marks,
     pub cancelled: Cancellations,
     pub plans: Plans,
+    pub first: FirstPlans,
     pub struck: usize,
     pub reopened: usize,
     /// lifts that touched more slots than they reopened
@@ -131,6 +133,7 @@ impl Tally {
         self.marks.print();
         self.cancelled.print();
         self.plans.print();
+        self.first.print();
     }
 
     /// Every refusal was seen, lifts reopened slots and struck some again, a board and a draft were full, and tables were altered.
@@ -144,6 +147,7 @@ impl Tally {
         self.marks.check_complete();
         self.cancelled.check_complete();
         self.plans.check_complete();
+        self.first.check_complete();
         assert!(self.reopened > 0 && self.struck_again > 0, "no lift did anything");
         assert!((self.most_rules, self.most_rows) == (64, 64), "no board was full");
         assert!(self.altered_tables > 0 && self.totals > 0, "no table was altered, or no sheet had a total");

@@ -42,7 +42,8 @@ fn grown(ledger: &Ledger, memory: Memory, mut set: Slots) -> Slots {
         let before = set.clone();
         for (number, rule) in &ledger.rules {
             let killers = &memory.killers[64 * *number as usize..][..64];
-            let holding = slots_in(rule, |w, row| rule.cells(row).nth(killers[w] as usize).is_some_and(|cell| has(&set, cell)));
+            let holding =
+                slots_in(rule, |w, row| rule.cells(row).nth(killers[w] as usize).is_some_and(|cell| has(&set, cell)));
             for (column, call) in rule.calls.iter().enumerate() {
                 set[*call as usize] |= caused(memory.slots, *call, *number) & holding[column];
             }

@@ -9,7 +9,7 @@ use Rattle.layout.specs.Names.{freshMarked}
 
 -- it rises with any change of a struct, of a function or of what one means
 abbrev pub interfaceVersion : ℕ
-interfaceVersion = 10
+interfaceVersion = 11
 
 -- the bytes of each field, one after another: fields of bytes leave no room between them
 abbrev pub headsSize : Heads → ℕ

@@ -1,9 +1,10 @@
-// The board for hosts in C and Rust: the entries and the six questions under their C names. What a host holds beside the buffers is a plain C struct of two parts, the
+// The board for hosts in C and Rust: the entries and the seven questions under their C names. What a host holds beside the buffers is a plain C struct of two parts, the
 // board's value and the names of the marks. Both are lent by pointer to the two functions that write them; the questions are handed the board's value by value. The
 // summary table is a slice of C structs. hosts/berth.h says the same for C, and two numbers tell a host whether its header is this library's.
 // Proved: each reply hands on an answer that keeps its promise of the model's specs, on any value and any buffers. Assumed: nothing here; of a host, that a
 // lent pointer reaches as far as its length says, and that nothing lent to one call overlaps.
 use berth_reply::CommandReply;
+use berth_reply::FirstReply;
 use berth_reply::PlaceReply;
 use berth_reply::PlanReply;
 use berth_reply::ReplayReply;
@@ -18,13 +19,14 @@ use layout::value::Value;
 ghost use mathlib.Core.Path.{_≡_};
 ghost use Rattle.model.specs.Questions.{SlotsPromise, StatePromise, RowPromise, SupportPromise};
 ghost use Rattle.plan_model.specs.Check.{PlanPromise};
-ghost use Rattle.berth_reply.specs.Replies.{Replied, CommandReplied, ReplayReplied, PlaceReplied, slotsReply, stateReply, rowReply, supportReply, planReply};
+ghost use Rattle.plan_search.specs.First.{FirstPromise};
+ghost use Rattle.berth_reply.specs.Replies.{Replied, CommandReplied, ReplayReplied, PlaceReplied, slotsReply, stateReply, rowReply, supportReply, planReply, firstReply};
 ghost use Rattle.layout.specs.Names.{freshMarked};
 ghost use Rattle.layout.specs.Memory.{memory, markedMemory, wholeOf};
 ghost use Rattle.berth.specs.Version.{interfaceVersion, valueSize};
 
 // A host compares these two with what its header says. They take and return plain numbers, so that a host of any version can ask.
-const VERSION: u32 = 10;
+const VERSION: u32 = 11;
 
 // The bytes of `MarkedValue`: 416 of the heads, 263 of the draft, and 834 of the names.
 const VALUE_SIZE: usize = 1513;
@@ -184,4 +186,18 @@ pub extern "C" fn berth_check_plan(
     ensures { λ r. ⌜ Replied (PlanPromise (memory value (rows .entry) (killers .entry) (slots .entry)) (now (plan .entry))) planReply r ⌝ }
 {
     berth_reply::of_plan_check(plan_check::check_plan(value, rows, killers, slots, plan))
+}
+
+// The first full plan with the trials of the search; that there is none; or that the search needs more trials than the ceiling.
+#[no_mangle]
+pub extern "C" fn berth_first_plan(
+    value: Value,
+    rows: &[u8],
+    killers: &[u8],
+    slots: &[u8],
+    ceiling: u32,
+) -> FirstReply
+    ensures { λ r. ⌜ Replied (FirstPromise (memory value (rows .entry) (killers .entry) (slots .entry)) ceiling) firstReply r ⌝ }
+{
+    berth_reply::of_first_plan(plan_lay::first_plan(value, rows, killers, slots, ceiling))
 }

@@ -16,6 +16,9 @@ use Rattle.model.specs.declared.answer.Support.{Support}
 use Rattle.model.specs.declared.answer.Support.the-variants as support
 use Rattle.plan_model.specs.declared.answer.PlanCheck.{PlanCheck}
 use Rattle.plan_model.specs.declared.answer.PlanCheck.the-variants as plan
+use Rattle.plan_search.specs.declared.answer.FirstPlan.{FirstPlan}
+use Rattle.plan_search.specs.declared.answer.FirstPlan.the-variants as first
+use Rattle.plan_search.specs.declared.answer.PlanAnswer.{PlanAnswer}
 use Rattle.command_file.specs.declared.Replayed.{Replayed}
 use Rattle.berth_reply.specs.declared.CommandReply.{CommandReply}
 use Rattle.berth_reply.specs.declared.ReplayReply.{ReplayReply}
@@ -25,6 +28,7 @@ use Rattle.berth_reply.specs.declared.RowReply.{RowReply}
 use Rattle.berth_reply.specs.declared.PlaceReply.{PlaceReply}
 use Rattle.berth_reply.specs.declared.SupportReply.{SupportReply}
 use Rattle.berth_reply.specs.declared.PlanReply.{PlanReply}
+use Rattle.berth_reply.specs.declared.FirstReply.{FirstReply}
 use Rattle.model.specs.Promise.{Promise}
 use Rattle.model.specs.Questions.{rowChecks, RowBytesPromise}
 use Rattle.command_file.specs.Replay.{ReplayPromise}
@@ -83,6 +87,16 @@ abbrev pub planReply : PlanCheck → PlanReply
 planReply plan.Kept = record { number = 0; broken = 255 }
 planReply (plan.Broken p) = record { number = 0; broken = p }
 planReply (plan.Refused n) = record { number = n; broken = 254 }
+
+-- how a search ended, with its trials: 1 with a plan, 0 with none, and 2 at the ceiling. The plan stands beside it as it is
+abbrev pub searchReply : FirstPlan → List ℕ → FirstReply
+searchReply (first.Found n) plan = record { trials = n; number = 0; ending = 1; plan = plan }
+searchReply (first.Nothing n) plan = record { trials = n; number = 0; ending = 0; plan = plan }
+searchReply (first.Stopped n) plan = record { trials = n; number = 0; ending = 2; plan = plan }
+searchReply (first.Refused n) plan = record { trials = 0; number = n; ending = 254; plan = plan }
+
+abbrev pub firstReply : PlanAnswer → FirstReply
+firstReply given = searchReply (given .answer) (given .plan)
 
 -- where a row's four bytes stand in the lent row buffer, by the number of the row's refusal; no byte of it where there is one
 abbrev pub placeReply : ℕ → ℕ → ℕ → PlaceReply

@@ -9,8 +9,10 @@ use model::answer::RowState;
 use model::answer::SlotState;
 use model::answer::Support;
 use plan_model::answer::PlanCheck;
+use plan_search::answer::FirstPlan;
+use plan_search::answer::PlanAnswer;
 ghost use mathlib.Core.Path.{_≡_};
-ghost use Rattle.berth_reply.specs.Replies.{commandReply, replayReply, slotsReply, stateReply, rowReply, supportReply, planReply};
+ghost use Rattle.berth_reply.specs.Replies.{commandReply, replayReply, slotsReply, stateReply, rowReply, supportReply, planReply, firstReply};
 ghost use Rattle.berth_reply.specs.Places.{rowPlaceReply};
 
 // What a command changed: S, R and T (SCOPE 3.7), which are 0 where refused.
@@ -72,6 +74,15 @@ pub struct SupportReply {
 pub struct PlanReply {
     pub number: u8,
     pub broken: u8,
+}
+
+// The trials of a search, how it ended, and the plan: 1 with a plan, 0 with none, 2 at the ceiling, 254 where refused. A byte of the plan is 255 where no slot is laid.
+#[repr(C)]
+pub struct FirstReply {
+    pub trials: u32,
+    pub number: u8,
+    pub ending: u8,
+    pub plan: [u8; 32],
 }
 
 pub fn of_outcome(outcome: Outcome) -> CommandReply
@@ -194,6 +205,39 @@ pub fn of_plan_check(answer: PlanCheck) -> PlanReply
         PlanCheck::Refused(number) => PlanReply {
             number,
             broken: 254,
+        },
+    }
+}
+
+pub fn of_first_plan(given: PlanAnswer) -> FirstReply
+    ensures { λ r. ⌜ r ≡ firstReply given ⌝ }
+{
+    let answer = given.answer;
+    let plan = given.plan;
+    match answer {
+        FirstPlan::Found(trials) => FirstReply {
+            trials,
+            number: 0,
+            ending: 1,
+            plan,
+        },
+        FirstPlan::Nothing(trials) => FirstReply {
+            trials,
+            number: 0,
+            ending: 0,
+            plan,
+        },
+        FirstPlan::Stopped(trials) => FirstReply {
+            trials,
+            number: 0,
+            ending: 2,
+            plan,
+        },
+        FirstPlan::Refused(number) => FirstReply {
+            trials: 0,
+            number,
+            ending: 254,
+            plan,
         },
     }
 }

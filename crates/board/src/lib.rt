@@ -1,5 +1,5 @@
 // THE ENTRIES: any bytes as a command, on any value, any buffers and any summary table; a file of commands, replayed on a board that is made fresh in any memory; and
-// the six questions, which the crates questions and plan_check have. The types that they take and answer with are handed on too.
+// the seven questions, which the crates questions, plan_check and plan_lay have. The types that they take and answer with are handed on too.
 // Proved: what the command entry answers and leaves is what specs/Promise.antt of the crate model says, and what a file leaves stands after a list of such commands,
 // of which specs/Laws/Demands.antt has demand 3. Assumed: nothing.
 pub use command_file::Replayed;
@@ -17,7 +17,10 @@ pub use model::answer::RowState;
 pub use model::answer::SlotState;
 pub use model::answer::Support;
 pub use plan_check::check_plan;
+pub use plan_lay::first_plan;
 pub use plan_model::answer::PlanCheck;
+pub use plan_search::answer::FirstPlan;
+pub use plan_search::answer::PlanAnswer;
 pub use questions::open_slots;
 pub use questions::row_bytes;
 pub use questions::row_state;

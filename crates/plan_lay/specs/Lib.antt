@@ -1,5 +1,3 @@
-pub mod Lookup
-pub mod Due
 pub mod Lay
 pub mod Parts
 pub mod Laws

@@ -15,5 +15,5 @@ abbrev pub planParts : RefT (List ℕ) → RefT (List ℕ) → RefT (List ℕ) �
 planParts counts arity scope lengths rows slots = stateOfParts (now counts) (now arity) (now scope) (now lengths) (now rows) [] (now slots)
 
 -- THE TASK of the tables that a function is lent
-abbrev pub lentTask : RefT (List ℕ) → RefT (List ℕ) → RefT (List ℕ) → RefT (List ℕ) → RefT (List ℕ) → RefT (List ℕ) → RefT (List ℕ) → Task
-lentTask rows lengths columns masks due opened calls = tableTask (now rows) (now lengths) (now columns) (now masks) (now due) (now opened) (now calls)
+abbrev pub lentTask : RefT (List ℕ) → RefT (List ℕ) → RefT (List ℕ) → RefT (List ℕ) → Task
+lentTask words lengths columns calls = tableTask (now words) (now lengths) (now columns) (now calls)

@@ -1,16 +1,18 @@
-// The search by the tables: a slot for each call in rising order, and back to the call before where none is left.
-use crate::fit::rules_fit;
-ghost use mathlib.Core.Path.{_≡_};
+// The search by the tables, by recursion that falls on the calls and the slots left: a slot for each call in rising order, and back to the call before where none is left.
+// What is left of the ceiling is counted down: `left` is one more than the trials that may still be made, and 0 where one more was needed.
+use plan_tables::fit::rules_fit;
+use plan_tables::lookup::WORDS;
 ghost use Prim.Native.Nat.{_+_, _<_, _≤_};
-ghost use lib.ListN.{length};
-ghost use Rattle.layout.specs.Sizes.{rowsLength};
+ghost use lib.ListN.{set};
+ghost use Rattle.model.specs.Board.{noSlotGiven};
 ghost use Rattle.plan_search.specs.Search.{after};
-ghost use Rattle.plan_search.specs.First.{cut};
-ghost use Rattle.plan_lay.specs.Lay.{NextOpen, callsFrom, triesFrom, behindSlot, endedOf};
+ghost use Rattle.plan_search.specs.First.{Clear};
+ghost use Rattle.plan_lay.specs.Lay.{NextOpen, callsFrom, triesFrom, behindSlot, endingAt, StepEnded};
 ghost use Rattle.plan_lay.specs.Parts.{lentTask};
 
-// How the calls behind a slot ended.
+// How the calls from one on ended, or those behind a slot.
 pub enum Ending {
+    // each has a slot
     Found,
     // no slot is left
     Nothing,
@@ -18,204 +20,110 @@ pub enum Ending {
     Stopped,
 }
 
-// The same with the plan, where one is found, and the trials of the search so far.
-pub struct Laid {
-    pub plan: [u8; 32],
-    pub ending: Ending,
-    pub trials: u32,
-}
-
-// The first slot of the mask from `slot` on; 32 where there is none.
-fn next_open(mask: u32, slot: usize) -> usize
+// The first number of the mask from `slot` on; 32 or more where there is no slot.
+fn next_open(mask: u64, slot: usize) -> usize
     requires { ⌜ slot ≤ 32 ⌝ }
     ensures { λ r. ⌜ NextOpen mask slot r ⌝ }
 {
-    if 32 <= slot {
-        return 32;
-    }
-    let above = mask >> (slot as u32);
+    let above = mask >> (slot as u64);
     if above == 0 {
         return 32;
     }
-    slot + (u32::trailing_zeros(above) as usize)
+    slot + (u64::trailing_zeros(above) as usize)
 }
 
-// Lays the calls from `call` on.
+// Lays the calls from `call` on. Where no slot of it is left, the plan is as it was.
 pub fn lay_calls(
-    rows: &[u8],
+    words: &[u32; WORDS],
     lengths: &[u8; 64],
     columns: &[u8; 256],
-    masks: &[u32; 64],
-    due: &[u64; 32],
-    opened: &[u32; 32],
-    calls: &[u8; 32],
-    plan: [u8; 32],
-    trials: u32,
+    calls: &[u64; 96],
+    plan: &mut [u8; 32],
+    left: &mut u64,
     call: usize,
-    ceiling: u32,
-) -> Laid
-    requires { ⌜ length (now rows) ≡ rowsLength ⌝ }
-    requires { ⌜ trials ≤ ceiling ⌝ }
+) -> Ending
+    requires { ⌜ Clear call (now plan) ⌝ }
+    requires { ⌜ 0 < now left ⌝ }
     requires { ⌜ call ≤ 32 ⌝ }
-    ensures { λ r. ⌜ endedOf r
-        ≡ cut ceiling (after trials
-        (callsFrom (lentTask (rows .entry) (lengths .entry) (columns .entry) (masks .entry) (due .entry) (opened .entry) (calls .entry)) call plan)) ⌝ }
+    ensures { λ r. ⌜ StepEnded
+        (callsFrom (lentTask (words .entry) (lengths .entry) (columns .entry) (calls .entry)) call (now (plan .entry)))
+        (now (left .entry)) (now (left .exit)) (now (plan .entry)) (now (plan .exit)) r ⌝ }
 {
     if 32 <= call {
-        return Laid {
-            plan,
-            ending: Ending::Found,
-            trials,
-        };
+        return Ending::Found;
     }
-    if calls[call] == 0 {
-        return lay_calls(
-            rows,
-            lengths,
-            columns,
-            masks,
-            due,
-            opened,
-            calls,
-            plan,
-            trials,
-            call + 1,
-            ceiling,
-        );
+    if calls[64 + call] == 0 {
+        return lay_calls(words, lengths, columns, calls, plan, left, call + 1);
     }
-    lay_slots(
-        rows,
-        lengths,
-        columns,
-        masks,
-        due,
-        opened,
-        calls,
-        plan,
-        trials,
-        call,
-        0,
-        ceiling,
-    )
+    let s = lay_slots(words, lengths, columns, calls, plan, left, call, 0);
+    if 32 <= s {
+        return Ending::Nothing;
+    }
+    if *left == 0 {
+        return Ending::Stopped;
+    }
+    Ending::Found
 }
 
-// Lays the open slots of a call from `slot` on, until one comes to a full plan or to the ceiling.
+// Lays the open slots of a call from `slot` on, until one comes to a full plan or to the ceiling, and returns that slot. Where none does, the call has no slot in the
+// plan, and it returns 32.
 fn lay_slots(
-    rows: &[u8],
+    words: &[u32; WORDS],
     lengths: &[u8; 64],
     columns: &[u8; 256],
-    masks: &[u32; 64],
-    due: &[u64; 32],
-    opened: &[u32; 32],
-    calls: &[u8; 32],
-    plan: [u8; 32],
-    trials: u32,
+    calls: &[u64; 96],
+    plan: &mut [u8; 32],
+    left: &mut u64,
     call: usize,
     slot: usize,
-    ceiling: u32,
-) -> Laid
-    requires { ⌜ length (now rows) ≡ rowsLength ⌝ }
-    requires { ⌜ trials ≤ ceiling ⌝ }
+) -> usize
+    requires { ⌜ Clear (call + 1) (now plan) ⌝ }
+    requires { ⌜ 0 < now left ⌝ }
     requires { ⌜ call < 32 ⌝ }
     requires { ⌜ slot ≤ 32 ⌝ }
-    ensures { λ r. ⌜ endedOf r
-        ≡ cut ceiling (after trials
-        (triesFrom (lentTask (rows .entry) (lengths .entry) (columns .entry) (masks .entry) (due .entry) (opened .entry) (calls .entry)) call slot plan)) ⌝ }
+    ensures { λ r. ⌜ StepEnded
+        (triesFrom (lentTask (words .entry) (lengths .entry) (columns .entry) (calls .entry)) call slot (now (plan .entry)))
+        (now (left .entry)) (now (left .exit)) (set (now (plan .entry)) call noSlotGiven) (now (plan .exit)) (endingAt r (now (left .exit))) ⌝ }
 {
-    let s = next_open(opened[call], slot);
+    let s = next_open(calls[32 + call], slot);
     if 32 <= s {
-        return Laid {
-            plan,
-            ending: Ending::Nothing,
-            trials,
-        };
+        plan[call] = 255;
+        return 32;
     }
-    let tried = lay_slot(
-        rows,
-        lengths,
-        columns,
-        masks,
-        due,
-        opened,
-        calls,
-        plan,
-        trials,
-        call,
-        s,
-        ceiling,
-    );
-    let ending = tried.ending;
-    let spent = tried.trials;
+    let ending = lay_slot(words, lengths, columns, calls, plan, left, call, s);
     match ending {
-        Ending::Found => tried,
-        Ending::Stopped => tried,
-        Ending::Nothing => lay_slots(
-            rows,
-            lengths,
-            columns,
-            masks,
-            due,
-            opened,
-            calls,
-            plan,
-            spent,
-            call,
-            s + 1,
-            ceiling,
-        ),
+        Ending::Found => s,
+        Ending::Stopped => s,
+        Ending::Nothing => lay_slots(words, lengths, columns, calls, plan, left, call, s + 1),
     }
 }
 
 // Lays an open slot, which is a trial, and where it stays the calls behind it.
 fn lay_slot(
-    rows: &[u8],
+    words: &[u32; WORDS],
     lengths: &[u8; 64],
     columns: &[u8; 256],
-    masks: &[u32; 64],
-    due: &[u64; 32],
-    opened: &[u32; 32],
-    calls: &[u8; 32],
-    plan: [u8; 32],
-    trials: u32,
+    calls: &[u64; 96],
+    plan: &mut [u8; 32],
+    left: &mut u64,
     call: usize,
     slot: usize,
-    ceiling: u32,
-) -> Laid
-    requires { ⌜ length (now rows) ≡ rowsLength ⌝ }
-    requires { ⌜ trials ≤ ceiling ⌝ }
+) -> Ending
+    requires { ⌜ Clear (call + 1) (now plan) ⌝ }
+    requires { ⌜ 0 < now left ⌝ }
     requires { ⌜ call < 32 ⌝ }
     requires { ⌜ slot < 32 ⌝ }
-    ensures { λ r. ⌜ endedOf r
-        ≡ cut ceiling (after (trials + 1)
-        (behindSlot (lentTask (rows .entry) (lengths .entry) (columns .entry) (masks .entry) (due .entry) (opened .entry) (calls .entry)) call slot plan)) ⌝ }
+    ensures { λ r. ⌜ StepEnded
+        (after 1 (behindSlot (lentTask (words .entry) (lengths .entry) (columns .entry) (calls .entry)) call slot (now (plan .entry))))
+        (now (left .entry)) (now (left .exit)) (set (now (plan .entry)) call slot) (now (plan .exit)) r ⌝ }
 {
-    if ceiling <= trials {
-        return Laid {
-            plan,
-            ending: Ending::Stopped,
-            trials,
-        };
+    *left = *left - 1;
+    if *left == 0 {
+        return Ending::Stopped;
     }
-    let mut laid = plan;
-    laid[call] = slot as u8;
-    if !rules_fit(rows, lengths, columns, masks, &laid, due[call]) {
-        return Laid {
-            plan,
-            ending: Ending::Nothing,
-            trials: trials + 1,
-        };
+    plan[call] = slot as u8;
+    if !rules_fit(words, lengths, columns, plan, calls[call]) {
+        return Ending::Nothing;
     }
-    lay_calls(
-        rows,
-        lengths,
-        columns,
-        masks,
-        due,
-        opened,
-        calls,
-        laid,
-        trials + 1,
-        call + 1,
-        ceiling,
-    )
+    lay_calls(words, lengths, columns, calls, plan, left, call + 1)
 }

@@ -1,8 +1,5 @@
 // The first full plan (order 8, SCOPE 5.9): calls are laid in rising order, each with the lowest open slot that stays, and where none is left the call before goes on.
 // Proved: the answer meets its promise of plan_search's specs/First.antt, on any value and any buffers. Assumed: nothing.
-mod lookup; // which calls are to be laid, their open slots, and the rules' columns
-mod due; // the rules that a call makes due
-mod fit; // a plan laid in part against the rows of rules
 mod lay; // the search by the tables
 mod first; // the search from the tables to the answer
 

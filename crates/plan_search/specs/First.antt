@@ -25,6 +25,11 @@ use Rattle.plan_search.specs.Search.{Result, found, nothing, Task, searc
 abbrev pub noPlan : List ℕ
 noPlan = replicate planSize noSlotGiven
 
+-- no call is laid from c on
+pub record Clear (c : ℕ) (plan : List ℕ) : Type 0 where
+  pub size : length plan ≡ planSize
+  pub none : (d : ℕ) → c ≤ d → slotIn plan d ≡ noSlotGiven
+
 -- THE SEARCH ON A BOARD (SCOPE 5.9): the calls of the board that are not cancelled, their open slots, and the rules in force
 abbrev pub boardTask : Board → Task
 boardTask B = record { lays = λ c. ltb c (length (B .counts)) && live? B c; opens = in? (openOf B); stays = λ c plan. stays? (rulesOf B) plan }

@@ -1,5 +1,5 @@
 -- DEMAND 3 OF THE COMMAND ENTRY (SCOPE 6.12 to 6.15), over every list of raw commands with any lengths lent, and over every two lists; and the summary table after every
--- list (2.9, 7.11), and the check of plans (5.7, 5.8). Nothing is assumed but that each command of a list meets the entry's contract, which `command` of this crate is proved to do.
+-- list (2.9, 7.11), the check of plans (5.7, 5.8) and the search for one (5.9, 5.10). Nothing is assumed but that each command of a list meets the entry's contract, which `command` of this crate is proved to do.
 use mathlib.Core.Path.{_≡_, _∙_}
 use mathlib.Core.List.{List}
 use mathlib.Core.Logic.{_↔_, _⊎_, inl, inr, ⊎-elim}
@@ -27,6 +27,12 @@ use Rattle.plan_model.specs.declared.answer.PlanCheck.the-variants as plan
 use Rattle.plan_model.specs.Plans.{slotIn}
 use Rattle.plan_model.specs.Check.{planConditions, LowestBroken, PlanPromise}
 use Rattle.plan_model.specs.Laws.Kept.{kept-exactly, struck-broken}
+use Rattle.model.specs.Questions.{boardConditions}
+use Rattle.plan_search.specs.declared.answer.FirstPlan.the-variants as searched
+use Rattle.plan_search.specs.declared.answer.PlanAnswer.{PlanAnswer}
+use Rattle.plan_search.specs.First.{boardTask, searchAll, trials, FoundFirst, FirstPromise}
+use Rattle.plan_search.specs.Laws.Exactly.{found-exactly, none-exactly, stopped-exactly, found-is-first}
+use Rattle.plan_search.specs.Laws.Checked.{found-kept}
 use Rattle.board.specs.Lists.{boardAfter}
 
 -- FOR EVERY LIST OF COMMANDS
@@ -132,6 +138,32 @@ module _ {first : List ℕ} (ms : List Member) (s : Whole) (after : After first 
     -- and where they use a struck slot a rule is named that they break (5.8)
     pub plan-struck-broken : (c : ℕ) → c < length (B .counts) → Struck B cause c (slotIn bytes c) → (p : ℕ) × (given ≡ plan.Broken p) × LowestBroken B (slotIn bytes) p
     plan-struck-broken = let r = runs-represent ms s after in struck-broken (run fresh ms) (r .0) (s .marked .state) (r .1 .state) bytes passes given promise
+
+  -- THE FIRST FULL PLAN, after every list (SCOPE 5.9, 5.10): where nothing is refused, whatever answer keeps its promise is "found" exactly where there is a full plan and
+  -- the search comes to it within the ceiling,
+  module _ (passes : firstOf (boardConditions (run fresh ms) (lentOf (s .marked .state))) ≡ 0) (ceiling : ℕ) (given : PlanAnswer)
+      (promise : FirstPromise (s .marked .state) ceiling given) where
+    abbrev needed : ℕ
+    needed = trials (searchAll (boardTask B))
+
+    pub plan-found-exactly : ((n : ℕ) × (given .answer ≡ searched.Found n)) ↔ (((P : ℕ → ℕ) × FullPlan B P) × (needed ≤ ceiling))
+    plan-found-exactly = let r = runs-represent ms s after in found-exactly (run fresh ms) (r .0) (s .marked .state) (r .1 .state) passes ceiling given promise
+
+    -- "none" exactly where there is no full plan and the search finishes within the ceiling,
+    pub plan-none-exactly : ((n : ℕ) × (given .answer ≡ searched.Nothing n)) ↔ (((P : ℕ → ℕ) → FullPlan B P → ⊥) × (needed ≤ ceiling))
+    plan-none-exactly = let r = runs-represent ms s after in none-exactly (run fresh ms) (r .0) (s .marked .state) (r .1 .state) passes ceiling given promise
+
+    -- "stopped" exactly where the search needs more trials than the ceiling;
+    pub search-stopped-exactly : ((n : ℕ) × (given .answer ≡ searched.Stopped n)) ↔ (ceiling < needed)
+    search-stopped-exactly = let r = runs-represent ms s after in stopped-exactly (run fresh ms) (r .0) (s .marked .state) (r .1 .state) passes ceiling given promise
+
+    -- what is found is the first full plan, with the trials that it needs,
+    pub plan-found-first : (n : ℕ) → given .answer ≡ searched.Found n → FoundFirst B ceiling (given .plan) n
+    plan-found-first = let r = runs-represent ms s after in found-is-first (run fresh ms) (r .0) (s .marked .state) (r .1 .state) passes ceiling given promise
+
+    -- and whatever check keeps its promise says that it is kept
+    pub plan-found-kept : (n : ℕ) → given .answer ≡ searched.Found n → (check : PlanCheck) → PlanPromise (s .marked .state) (given .plan) check → check ≡ plan.Kept
+    plan-found-kept = let r = runs-represent ms s after in found-kept (run fresh ms) (r .0) (s .marked .state) (r .1 .state) ceiling given promise
 
 -- OF TWO LISTS (SCOPE 6.14, 6.21): with the same calls and counts, at least the same rules after the second, and every call that is cancelled after it cancelled after the
 -- first, each slot open after the second is open after the first, on calls cancelled after neither

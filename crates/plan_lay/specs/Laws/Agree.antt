@@ -22,18 +22,19 @@ use Rattle.model.specs.Report.{open?}
 use Rattle.model.specs.Laws.Tests.{and→, →and, or→, →or, →T, T→, same-test, →eqb, T?, some→, →some, every→, →every}
 use Rattle.model.specs.Laws.Search.{some-same, every-same}
 use Rattle.plan_model.specs.Plans.{RulesRead, rulesIn, slotIn, fits?, fitted?}
-use Rattle.plan_fit.specs.Words.{planByte, IsWord}
+use Rattle.plan_fit.specs.Words.{maskByte, planByte, IsWord, rowMatches?}
 use Rattle.plan_fit.specs.Laws.Fits.{matched-fitted}
 use Rattle.plan_search.specs.Search.{Task, laid?, due?, stays?}
 use Rattle.plan_search.specs.First.{noPlan, memoryTask, searchAll}
 use Rattle.plan_search.specs.Laws.Search.{search-same}
 use Rattle.plan_search.specs.Laws.Stays.{not-laid, slot-laid}
 use Rattle.plan_search.specs.Laws.Full.{no-slot}
-use Rattle.plan_lay.specs.Lookup.{CallSlots, OpenMasks, RuleColumns, columnsAt, ColumnMasks}
-use Rattle.plan_lay.specs.Due.{ruleStage, DueRules}
-use Rattle.plan_lay.specs.Lay.{wantedBy, fittedBy, staysBy, tableTask, callsFrom}
-use Rattle.plan_lay.specs.Laws.Lookup.{columns-of}
-use Rattle.plan_lay.specs.Laws.Last.{LastCall, lays-agree, stage→last, last→stage}
+use Rattle.plan_tables.specs.Lookup.{CallSlots, RuleColumns, columnsAt, maskBy, RowWords}
+use Rattle.plan_tables.specs.Due.{ruleStage, DueRules}
+use Rattle.plan_lay.specs.Lay.{tableTask, CallsOf, callsFrom}
+use Rattle.plan_tables.specs.Fit.{wantedBy, fittedBy, staysBy}
+use Rattle.plan_tables.specs.Laws.Lookup.{columns-of}
+use Rattle.plan_tables.specs.Laws.Last.{LastCall, lays-agree, stage→last, last→stage}
 
 -- A RULE THAT IS DUE, of the rules as they are read: some call of it is laid, and each is laid or cancelled
 pub record DueRead (R : RulesRead) (plan : List ℕ) (p : ℕ) : Type 0 where
@@ -100,8 +101,8 @@ pub record Stands (s : State) (c : ℕ) (plan : List ℕ) : Type 0 where
   pub skipped : (d : ℕ) → memoryTask s .lays d ≡ false → slotIn plan d ≡ noSlotGiven
   pub stays : T (stays? (rulesIn s) plan)
 
-module _ (s : State) (columns calls masks due : List ℕ) (is-columns : RuleColumns (s .value .heads .arity) (s .value .heads .scope) (s .slots) columns)
-    (is-calls : CallSlots s calls) (is-masks : ColumnMasks columns masks) (is-due : DueRules calls columns 64 due) (bytes : (j : ℕ) → getD (s .rows) j 0 < 256) where
+module _ (s : State) (columns calls words due : List ℕ) (is-columns : RuleColumns (s .value .heads .arity) (s .value .heads .scope) (s .slots) columns)
+    (is-calls : CallSlots s calls) (is-words : RowWords (s .rows) (s .value .heads .lengths) columns 64 words) (is-due : DueRules calls columns 64 due) (bytes : (j : ℕ) → getD (s .rows) j 0 < 256) where
   abbrev m : Task
   m = memoryTask s
 
@@ -110,14 +111,20 @@ module _ (s : State) (columns calls masks due : List ℕ) (is-columns : RuleColu
 
   -- A ROW WITH THE PLAN'S SLOTS by the tables is one that fits
   fitted-agree : (plan : List ℕ) → length plan ≡ 32 → ((i : ℕ) → i < 32 → getD plan i 0 < 256) → (p : ℕ) → p < 64
-      → fittedBy (s .rows) (s .value .heads .lengths) columns masks plan p ≡ fitted? R plan p
+      → fittedBy words (s .value .heads .lengths) columns plan p ≡ fitted? R plan p
   unfolding fittedBy wantedBy
   fitted-agree plan size small p hp =
-      matched-fitted s plan size p (columns-of _ _ _ columns is-columns p hp) (is-masks .each p hp)
-      (record { is = refl; small = four (λ k. planByte plan (getD (columnsAt columns p) k 0) < 256) (byte (at 0)) (byte (at 1)) (byte (at 2)) (byte (at 3)) }) bytes
+      some-same (R .rows p) (λ w. eqb (getD words (64 * p + w) 0) (wantedBy columns plan p)) (rowMatches? (s .rows) p (maskBy columns p) (wantedBy columns plan p))
+      (λ w h. rw (is-words .each p hp w h) refl)
+      ∙ matched-fitted s plan size p (columns-of _ _ _ columns is-columns p hp)
+      (record { is = refl; small = four (λ k. maskByte (at k) < 256) (mask (at 0)) (mask (at 1)) (mask (at 2)) (mask (at 3)) })
+      (record { is = refl; small = four (λ k. planByte plan (at k) < 256) (byte (at 0)) (byte (at 1)) (byte (at 2)) (byte (at 3)) }) bytes
     where
       at : ℕ → ℕ
       at k = getD (columnsAt columns p) k 0
+
+      mask : (call : ℕ) → maskByte call < 256
+      mask call = ⊎-elim (λ h. rw (lt-ltb call 32 h) (omega arith)) (λ h. rw (le-ltb call 32 h) (omega arith)) (lt-or-le call 32)
 
       byte : (call : ℕ) → planByte plan call < 256
       byte call = ⊎-elim (λ h. rw (lt-ltb call 32 h) (small call h)) (λ h. rw (le-ltb call 32 h) (omega arith)) (lt-or-le call 32)
@@ -200,7 +207,7 @@ module _ (s : State) (columns calls masks due : List ℕ) (is-columns : RuleColu
             )
 
     abbrev fits : ℕ → Bool
-    fits p = fittedBy (s .rows) (s .value .heads .lengths) columns masks next p
+    fits p = fittedBy words (s .value .heads .lengths) columns next p
 
     abbrev isDue : ℕ → Bool
     isDue p = eqb (bitOf (getD due c 0) p) 1
@@ -209,7 +216,7 @@ module _ (s : State) (columns calls masks due : List ℕ) (is-columns : RuleColu
     passes p = not (isDue p) || fits p
 
     -- THE SLOT STAYS by the tables where it stays
-    pub stays-agree : staysBy (s .rows) (s .value .heads .lengths) columns masks (getD due c 0) next ≡ stays? R next
+    pub stays-agree : staysBy words (s .value .heads .lengths) columns (getD due c 0) next ≡ stays? R next
     unfolding staysBy
     stays-agree = same-test (every? 64 passes) (stays? R next) (λ t. each→stays R next (λ p hp d. all t p hp d (due-before p hp d))) (λ t. →every 64 passes (λ p hp. each t p hp))
       where
@@ -266,20 +273,24 @@ module _ (s : State) where
         stays = st;
       }
 
-  module _ (columns calls opened masks due : List ℕ) (is-columns : RuleColumns (s .value .heads .arity) (s .value .heads .scope) (s .slots) columns)
-      (is-calls : CallSlots s calls) (is-opened : OpenMasks (s .slots) opened) (is-masks : ColumnMasks columns masks) (is-due : DueRules calls columns 64 due)
-      (bytes : (j : ℕ) → getD (s .rows) j 0 < 256) where
-    opens-agree : (c t : ℕ) → c < 32 → t < 32 → open? (s .slots) c t ≡ eqb (bitOf (getD opened c 0) t) 1
-    opens-agree c t hc ht =
-        same-test (open? (s .slots) c t) (eqb (bitOf (getD opened c 0) t) 1)
-        (λ x. →eqb (bitOf (getD opened c 0) t) 1 (is-opened .each c hc .has t ht (eqb→eq (causeOf (s .slots) c t) 255 x)))
-        (λ x. →eqb (causeOf (s .slots) c t) 255 (is-opened .each c hc .only t (eqb→eq (bitOf (getD opened c 0) t) 1 x) .1))
+  module _ (columns calls words : List ℕ) (is-columns : RuleColumns (s .value .heads .arity) (s .value .heads .scope) (s .slots) columns) (of : CallsOf (s .value .heads .counts) (s .slots) columns calls)
+      (is-words : RowWords (s .rows) (s .value .heads .lengths) columns 64 words) (bytes : (j : ℕ) → getD (s .rows) j 0 < 256) where
+    abbrev table : Task
+    table = tableTask words (s .value .heads .lengths) columns calls
 
-    pub search-agrees : callsFrom (tableTask (s .rows) (s .value .heads .lengths) columns masks due opened calls) 0 noPlan ≡ searchAll (memoryTask s)
+    opens-agree : (c t : ℕ) → c < 32 → t < 32 → open? (s .slots) c t ≡ eqb (bitOf (getD (of .opened) c 0) t) 1
+    opens-agree c t hc ht =
+        same-test (open? (s .slots) c t) (eqb (bitOf (getD (of .opened) c 0) t) 1)
+        (λ x. →eqb (bitOf (getD (of .opened) c 0) t) 1 (of .masks .each c hc .has t ht (eqb→eq (causeOf (s .slots) c t) 255 x)))
+        (λ x. →eqb (causeOf (s .slots) c t) 255 (of .masks .each c hc .only t (eqb→eq (bitOf (getD (of .opened) c 0) t) 1 x) .1))
+
+    pub search-agrees : callsFrom table 0 noPlan ≡ searchAll (memoryTask s)
     unfolding callsFrom searchAll
     search-agrees =
-        sym (search-same (memoryTask s) (tableTask (s .rows) (s .value .heads .lengths) columns masks due opened calls) (Stands s) stands-skip
+        sym (search-same (memoryTask s) table (Stands s) stands-skip
         (λ c v plan h hv i l o st. stands-lay c v plan h hv i l (→T (stays? (rulesIn s) (set plan c v)) st))
-        (λ c h. sym (lays-agree s columns calls is-columns is-calls c h)) opens-agree
-        (λ c v plan h hv i l o. sym (stays-agree s columns calls masks due is-columns is-calls is-masks is-due bytes c v plan h hv i l))
+        (λ c h. rw (of .table .lays c h) (sym (lays-agree s columns (of .held) is-columns (of .has) c h)))
+        (λ c t h ht. rw (of .table .opens c h) (opens-agree c t h ht))
+        (λ c v plan h hv i l o.
+        rw (of .table .dues c h) (sym (stays-agree s columns (of .held) words (of .due) is-columns (of .has) is-words (of .dues) bytes c v plan h hv i l)))
         32 0 noPlan refl stands-first)

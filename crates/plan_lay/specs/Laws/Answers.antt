@@ -3,7 +3,8 @@
 use mathlib.Core.Path.{_≡_, refl, sym, ap, subst, _∙_}
 use mathlib.Core.List.{List}
 use mathlib.Core.Logic.{_≢_}
-use Prim.Native.Nat.{ℕ, _<_}
+use Prim.Native.Nat.{ℕ, _+_, _-_, _<_, min}
+use native.Mathlib.Omega.{arith}
 use lib.ListN.{length, getD}
 use Rattle.layout.specs.Memory.{State, lentOf}
 use Rattle.layout.specs.Sizes.{rowsLength, slotsLength}
@@ -13,34 +14,32 @@ use Rattle.model.specs.Numbers as refused
 use Rattle.model.specs.Laws.Refusals.{none-holds, refused-by}
 use Rattle.model.specs.Laws.Shapes.{lent-sizes}
 use Rattle.plan_search.specs.declared.answer.FirstPlan.the-variants as first
+use Rattle.plan_search.specs.Search.{Task}
 use Rattle.plan_search.specs.First.{noPlan, memoryTask, searchAll, Ended, cut, endedAnswer, firstBy, FirstPromise}
-use Rattle.plan_search.specs.Search.{after}
-use Rattle.plan_search.specs.Laws.Search.{after-none}
 use Rattle.plan_search.specs.Laws.First.{first-promise}
-use Rattle.plan_lay.specs.declared.lay.Laid.{Laid}
+use Rattle.plan_lay.specs.declared.first.Laid.{Laid}
+use Rattle.plan_lay.specs.declared.lay.Ending.{Ending}
 use Rattle.plan_lay.specs.declared.lay.Ending.the-variants as ending
-use Rattle.plan_lay.specs.Lookup.{CallSlots, OpenMasks, RuleColumns, ColumnMasks}
-use Rattle.plan_lay.specs.Due.{DueRules}
-use Rattle.plan_lay.specs.Lay.{tableTask, callsFrom, endedOf, LaidBy}
+use Rattle.plan_tables.specs.Lookup.{RuleColumns, RowWords}
+use Rattle.plan_lay.specs.Lay.{tableTask, CallsOf, callsFrom, endedWith, Rest, StepEnded, endedOf}
 use Rattle.plan_lay.specs.Laws.Agree.{search-agrees}
 
--- FROM THE FIRST CALL ON, with no trial before
-pub laid-by : (rows lengths columns opened calls : List ℕ) {masks due : List ℕ} (ceiling : ℕ) (r : Laid) → ColumnMasks columns masks → DueRules calls columns 64 due
-    → endedOf r ≡ cut ceiling (after 0 (callsFrom (tableTask rows lengths columns masks due opened calls) 0 noPlan)) → LaidBy rows lengths columns opened calls ceiling r
-laid-by rows lengths columns opened calls {masks} {due} ceiling r masked dues e =
-    record {
-      masks = masks;
-      due = due;
-      masked = masked;
-      dues = dues;
-      ended = e ∙ ap (cut ceiling) (after-none (callsFrom (tableTask rows lengths columns masks due opened calls) 0 noPlan));
-    }
+-- FROM THE FIRST CALL ON. The trials that were made are those of the end, but for one that was stopped, which has none
+made : (e : Ending) (plan : List ℕ) (ceiling left : ℕ) → Rest e left → endedWith e plan (min (ceiling + 1 - left) ceiling) ≡ endedWith e plan (ceiling + 1 - left)
+made ending.Found plan ceiling left h = let z : min (ceiling + 1 - left) ceiling ≡ ceiling + 1 - left = omega arith in rw z refl
+made ending.Nothing plan ceiling left h = let z : min (ceiling + 1 - left) ceiling ≡ ceiling + 1 - left = omega arith in rw z refl
+made ending.Stopped plan ceiling left h = refl
 
-pub laid-plan : (s : State) {columns opened calls : List ℕ} (ceiling : ℕ) (r : Laid) → RuleColumns (s .value .heads .arity) (s .value .heads .scope) (s .slots) columns
-    → CallSlots s calls → OpenMasks (s .slots) opened → ((j : ℕ) → getD (s .rows) j 0 < 256)
-    → LaidBy (s .rows) (s .value .heads .lengths) columns opened calls ceiling r → endedOf r ≡ cut ceiling (searchAll (memoryTask s))
-laid-plan s {columns} {opened} {calls} ceiling r is-columns is-calls is-opened bytes by =
-    by .ended ∙ ap (cut ceiling) (search-agrees s columns calls opened (by .masks) (by .due) is-columns is-calls is-opened (by .masked) (by .dues) bytes)
+pub all-laid : (t : Task) (ceiling : ℕ) {left n : ℕ} {back plan : List ℕ} {e : Ending} → StepEnded (callsFrom t 0 noPlan) (ceiling + 1) left back plan e
+    → n ≡ min (ceiling + 1 - left) ceiling → endedOf (record { plan = plan; ending = e; trials = n }) ≡ cut ceiling (callsFrom t 0 noPlan)
+unfolding endedOf
+all-laid t ceiling {left} {n} {back} {plan} {e} x is =
+    let z : ceiling + 1 - 1 ≡ ceiling = omega arith in ap (endedWith e plan) is ∙ made e plan ceiling left (x .remains) ∙ (rw z at (x .ended))
+
+pub laid-plan : (s : State) {words columns calls : List ℕ} (ceiling : ℕ) (r : Laid) → RuleColumns (s .value .heads .arity) (s .value .heads .scope) (s .slots) columns
+    → CallsOf (s .value .heads .counts) (s .slots) columns calls → RowWords (s .rows) (s .value .heads .lengths) columns 64 words → ((j : ℕ) → getD (s .rows) j 0 < 256)
+    → endedOf r ≡ cut ceiling (callsFrom (tableTask words (s .value .heads .lengths) columns calls) 0 noPlan) → endedOf r ≡ cut ceiling (searchAll (memoryTask s))
+laid-plan s {words} {columns} {calls} ceiling r is-columns is-calls is-words bytes e = e ∙ ap (cut ceiling) (search-agrees s columns calls words is-columns is-calls is-words bytes)
 
 -- THE ANSWER, by how the search ended
 module _ (r : Laid) (ceiling : ℕ) where

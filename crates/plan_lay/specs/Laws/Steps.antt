@@ -6,18 +6,20 @@ use mathlib.Core.Logic.{_≢_}
 use Prim.Native.Nat.{ℕ, zero, suc, _+_, _-_, _/_, _%_, _^_, _<_, _≤_}
 use native.Mathlib.Omega.{arith}
 use native.Mathlib.Numerals.{add-one}
-use lib.ListN.{set}
+use lib.ListN.{set, length-set}
+use lib.Seq.{set-set}
 use lib.Dec.{eqb}
 use lib.Count.{trailingZeros, under}
-use borrow.Author.Tests.{eq-eqb, ne-eqb, le-leb, lt-leb}
+use borrow.Author.Tests.{eq-eqb, ne-eqb, le-leb, lt-ltb, le-ltb}
 use Rattle.tables.specs.Masks.{bitOf}
+use Rattle.model.specs.Board.{noSlotGiven}
 use Rattle.tables.specs.Laws.Masks.{bit-zero, bit-above, lowest, has-below}
 use Rattle.plan_search.specs.Search.{Result, found, nothing, after, orNext, Task}
-use Rattle.plan_search.specs.First.{Ended, full, none, stopped, cut}
-use Rattle.plan_search.specs.Laws.Search.{tries-end, tries-closed, tries-open, search-end, search-skips, search-lays, after-after, goesOn?, cut-over, cut-first, cut-on, cut-within}
-use Rattle.plan_lay.specs.declared.lay.Laid.{Laid}
+use Rattle.plan_search.specs.First.{Clear, Ended, full, none, stopped, cut}
+use Rattle.plan_search.specs.Laws.Search.{tries-end, tries-closed, tries-open, search-end, search-skips, search-lays, tries-set, clear-away, goesOn?, later, cut-later, cut-over, cut-first, cut-on}
+use Rattle.plan_lay.specs.declared.lay.Ending.{Ending}
 use Rattle.plan_lay.specs.declared.lay.Ending.the-variants as ending
-use Rattle.plan_lay.specs.Lay.{NextOpen, callsFrom, triesFrom, behindSlot, endedOf}
+use Rattle.plan_lay.specs.Lay.{NextOpen, callsFrom, triesFrom, behindSlot, endedWith, endingAt, StepEnded}
 
 -- THE NEXT OPEN SLOT. Bits below the lowest are 0
 below-lowest : (k m i : ℕ) → i < trailingZeros k m → bitOf m i ≡ 0
@@ -30,7 +32,7 @@ below-lowest (suc k) m i h = go i (m % 2) refl h (λ j l. below-lowest k (m / 2)
     go (suc i) zero e h ih = ih i (omega arith)
     go i (suc d) e h ih = absurd (omega arith)
 
-module _ (mask s : ℕ) (small : mask < 2 ^ 32) where
+module _ (mask s : ℕ) (small : mask < 2 ^ 64) where
   shifted : (i : ℕ) → s ≤ i → bitOf mask i ≡ bitOf (mask / 2 ^ s) (i - s)
   shifted i h = let e : s + (i - s) ≡ i = omega arith in sym (bit-above mask s (i - s) ∙ ap (bitOf mask) e)
 
@@ -38,21 +40,17 @@ module _ (mask s : ℕ) (small : mask < 2 ^ 32) where
   next-none le z =
       record {
         from = le;
-        most = omega arith;
         closed = λ i h l. shifted i h ∙ ap (λ (m : ℕ). bitOf m (i - s)) z ∙ bit-zero (i - s);
         here = λ h. absurd (omega arith);
       }
 
-  pub next-found : mask / 2 ^ s ≢ 0 → mask / 2 ^ s < 2 ^ 32 → NextOpen mask s (s + trailingZeros 32 (mask / 2 ^ s))
+  pub next-found : mask / 2 ^ s ≢ 0 → mask / 2 ^ s < 2 ^ 64 → NextOpen mask s (s + trailingZeros 64 (mask / 2 ^ s))
   next-found n le =
-      let low = lowest 32 (mask / 2 ^ s) le (omega arith) in
-      let here : bitOf mask (s + trailingZeros 32 (mask / 2 ^ s)) ≡ 1 = sym (bit-above mask s (trailingZeros 32 (mask / 2 ^ s))) ∙ low .here in
-      let lt = has-below 32 mask (s + trailingZeros 32 (mask / 2 ^ s)) small here in
+      let low = lowest 64 (mask / 2 ^ s) le (omega arith) in
       record {
         from = omega arith;
-        most = omega arith;
-        closed = λ i h l. shifted i h ∙ below-lowest 32 (mask / 2 ^ s) (i - s) (omega arith);
-        here = λ h. here;
+        closed = λ i h l. shifted i h ∙ below-lowest 64 (mask / 2 ^ s) (i - s) (omega arith);
+        here = λ h. sym (bit-above mask s (trailingZeros 64 (mask / 2 ^ s))) ∙ low .here;
       }
 
 -- THE CALLS FROM c ON, and the slots from s on
@@ -91,94 +89,149 @@ module _ (t : Task) (plan : List ℕ) where
     unfolding triesFrom behindSlot
     slots-open s h o = rw (calls-step s h, add-one c, add-one s) (tries-open t (λ laid. callsFrom t (suc c) laid) c (32 - suc s) s plan o)
 
--- HOW A STEP ENDED, by the code's record of it
-ended-full : (plan : List ℕ) (n : ℕ) → endedOf (record { plan = plan; ending = ending.Found; trials = n }) ≡ full plan n
-unfolding endedOf
-ended-full plan n = refl
+    -- what the plan has for the call does not matter to them
+    slots-set : (v s : ℕ) → triesFrom t c s (set plan c v) ≡ triesFrom t c s plan
+    unfolding triesFrom
+    slots-set v s = tries-set t (λ laid. callsFrom t (suc c) laid) c v (32 - s) s plan
 
-ended-none : (plan : List ℕ) (n : ℕ) → endedOf (record { plan = plan; ending = ending.Nothing; trials = n }) ≡ none n
-unfolding endedOf
-ended-none plan n = refl
+-- HOW THE SLOTS OF A CALL ENDED, by the slot
+pub at-none : {s : ℕ} (left : ℕ) → 32 ≤ s → endingAt s left ≡ ending.Nothing
+unfolding endingAt
+at-none {s} left h = rw (le-ltb s 32 h) refl
 
-ended-stopped : (plan : List ℕ) (n : ℕ) → endedOf (record { plan = plan; ending = ending.Stopped; trials = n }) ≡ stopped
-unfolding endedOf
-ended-stopped plan n = refl
+pub at-stopped : {s left : ℕ} → s < 32 → left ≡ 0 → endingAt s left ≡ ending.Stopped
+unfolding endingAt
+at-stopped {s} {left} h z = rw (lt-ltb s 32 h, eq-eqb left 0 z) refl
 
-module _ (r : Laid) where
-  ended-on : r .ending ≡ ending.Nothing → endedOf r ≡ none (r .trials)
-  unfolding endedOf
-  ended-on e = rw e refl
+pub at-found : {s left : ℕ} → s < 32 → left ≢ 0 → endingAt s left ≡ ending.Found
+unfolding endingAt
+at-found {s} {left} h z = rw (lt-ltb s 32 h, ne-eqb left 0 z) refl
 
-  -- found and stopped end the search
-  pub found-ends : r .ending ≡ ending.Found → goesOn? (endedOf r) ≡ false
-  unfolding endedOf
-  found-ends e = rw e refl
+-- TRIALS BEFORE A STEP: what was left before them is what is left after them, and they
+ended-later : (e : Ending) (plan : List ℕ) (n m : ℕ) → endedWith e plan (n + m) ≡ later n (endedWith e plan m)
+ended-later ending.Found plan n m = refl
+ended-later ending.Nothing plan n m = refl
+ended-later ending.Stopped plan n m = refl
 
-  pub stopped-ends : r .ending ≡ ending.Stopped → goesOn? (endedOf r) ≡ false
-  unfolding endedOf
-  stopped-ends e = rw e refl
+ended-behind : (e : Ending) (plan : List ℕ) (r : Result) (left before rest : ℕ) → rest ≤ left → left ≤ before → 0 < left
+    → endedWith e plan (left - rest) ≡ cut (left - 1) r → endedWith e plan (before - rest) ≡ cut (before - 1) (after (before - left) r)
+ended-behind e plan r left before rest h l pos is =
+    let a : before - rest ≡ before - left + (left - rest) = omega arith in
+    let b : before - 1 ≡ before - left + (left - 1) = omega arith in
+    rw (a, b) (ended-later e plan (before - left) (left - rest) ∙ ap (later (before - left)) is ∙ sym (cut-later (before - left) (left - 1) r))
 
--- AFTER k TRIALS
-module _ (t : Task) (ceiling k : ℕ) (plan : List ℕ) (c : ℕ) where
-  abbrev Comes : Ended → Result → Type 0
-  Comes e r = e ≡ cut ceiling (after k r)
+-- THE STEPS, with so much left
+module _ (t : Task) (left : ℕ) (plan : List ℕ) (c : ℕ) (pos : 0 < left) where
+  none-made : left - left ≡ 0
+  none-made = omega arith
 
-  -- the calls: all are laid, one is skipped, one is to be laid
-  pub calls-done : k ≤ ceiling → 32 ≤ c → Comes (endedOf (record { plan = plan; ending = ending.Found; trials = k })) (callsFrom t c plan)
-  calls-done l h =
-      let z : k + 0 ≡ k = omega arith in
-      ended-full plan k ∙ sym (ap (λ (r : Result). cut ceiling (after k r)) (calls-end t plan c h) ∙ rw (z, le-leb k ceiling l) refl)
+  -- the calls: all are passed, one is skipped, one is to be laid
+  pub calls-done : 32 ≤ c → Clear c plan → StepEnded (callsFrom t c plan) left left plan plan ending.Found
+  calls-done h clear =
+      record {
+        ended = rw none-made (sym (ap (cut (left - 1)) (calls-end t plan c h) ∙ rw (le-leb 0 (left - 1) (omega arith)) refl));
+        fewer = omega arith;
+        remains = pos;
+        size = clear .size;
+        undone = tt;
+      }
 
-  pub call-skipped : {e : Ended} → c < 32 → t .lays c ≡ false → Comes e (callsFrom t (c + 1) plan) → Comes e (callsFrom t c plan)
-  call-skipped h l e = rw (calls-skip t plan c h l) e
+  pub call-skipped : {rest : ℕ} {back after : List ℕ} {e : Ending} → c < 32 → t .lays c ≡ false → StepEnded (callsFrom t (c + 1) plan) left rest back after e
+      → StepEnded (callsFrom t c plan) left rest back after e
+  call-skipped h l x = rw (calls-skip t plan c h l) x
 
-  pub call-laid : {e : Ended} → c < 32 → t .lays c ≡ true → Comes e (triesFrom t c 0 plan) → Comes e (callsFrom t c plan)
-  call-laid h l e = rw (calls-lay t plan c h l) e
+  pub call-laid : {rest : ℕ} {after : List ℕ} {e ending : Ending} → c < 32 → t .lays c ≡ true → Clear c plan
+      → StepEnded (triesFrom t c 0 plan) left rest (set plan c noSlotGiven) after e → e ≡ ending → StepEnded (callsFrom t c plan) left rest plan after ending
+  call-laid {rest} {after} {e} {ending} h l clear x is =
+      let y : StepEnded (triesFrom t c 0 plan) left rest plan after ending = rw (clear-away c plan clear, is) at x in rw (calls-lay t plan c h l) y
 
   -- the slots: none is left, what is behind one ends the search, or lets the next be tried
   module _ {mask slot s : ℕ} (opens : (i : ℕ) → t .opens c i ≡ eqb (bitOf mask i) 1) (next : NextOpen mask slot s) where
-    passed : triesFrom t c slot plan ≡ triesFrom t c s plan
-    passed =
-        slots-pass t plan c (s - slot) slot s (omega (arith, next .from)) (next .most)
-        (λ i h l. opens i ∙ ne-eqb (bitOf mask i) 1 (λ e. let z = next .closed i h l in omega arith))
+    passed : (r : ℕ) → slot ≤ r → r ≤ s → r ≤ 32 → triesFrom t c slot plan ≡ triesFrom t c r plan
+    passed r from most last =
+        slots-pass t plan c (r - slot) slot r (omega arith) last
+        (λ i h l. opens i ∙ ne-eqb (bitOf mask i) 1 (λ e. let z = next .closed i h (omega arith) in omega arith))
 
     opened : s < 32 → triesFrom t c slot plan ≡ after 1 (orNext (behindSlot t c s plan) (triesFrom t c (s + 1) plan))
-    opened h = passed ∙ slots-open t plan c s h (opens s ∙ eq-eqb (bitOf mask s) 1 (next .here h))
+    opened h = passed s (next .from) (omega arith) (omega arith) ∙ slots-open t plan c s h (opens s ∙ eq-eqb (bitOf mask s) 1 (next .here h))
 
-    pub slots-done : k ≤ ceiling → 32 ≤ s → Comes (endedOf (record { plan = plan; ending = ending.Nothing; trials = k })) (triesFrom t c slot plan)
-    slots-done l h =
-        let z : k + 0 ≡ k = omega arith in
-        ended-none plan k ∙ sym (ap (λ (r : Result). cut ceiling (after k r)) (passed ∙ slots-end t plan c s h) ∙ rw (z, le-leb k ceiling l) refl)
+    pub slots-done : slot ≤ 32 → 32 ≤ s → Clear (c + 1) plan → StepEnded (triesFrom t c slot plan) left left (set plan c noSlotGiven) (set plan c noSlotGiven) (endingAt 32 left)
+    slots-done le h clear =
+        rw (at-none {s = 32} left (omega arith))
+        (record {
+          ended = rw none-made (sym (ap (cut (left - 1)) (passed 32 le h (omega arith) ∙ slots-end t plan c 32 (omega arith)) ∙ rw (le-leb 0 (left - 1) (omega arith)) refl));
+          fewer = omega arith;
+          remains = pos;
+          size = length-set plan c noSlotGiven ∙ clear .size;
+          undone = refl;
+        })
 
-    module _ (h : s < 32) (r : Laid) (is : endedOf r ≡ cut ceiling (after (k + 1) (behindSlot t c s plan))) where
-      pub slot-ends : goesOn? (endedOf r) ≡ false → Comes (endedOf r) (triesFrom t c slot plan)
-      slot-ends off =
-          cut-first ceiling k (behindSlot t c s plan) (triesFrom t c (s + 1) plan) (endedOf r) is off
-          ∙ sym (ap (λ (r : Result). cut ceiling (after k r)) (opened h))
+    module _ (h : s < 32) where
+      ends : (e : Ended) → e ≡ cut (left - 1) (after 1 (behindSlot t c s plan)) → goesOn? e ≡ false → e ≡ cut (left - 1) (triesFrom t c slot plan)
+      ends e is off = cut-first (left - 1) (behindSlot t c s plan) (triesFrom t c (s + 1) plan) e is off ∙ sym (ap (cut (left - 1)) (opened h))
 
-      pub slot-leaves : {e : Ended} → r .ending ≡ ending.Nothing → e ≡ cut ceiling (after (r .trials) (triesFrom t c (s + 1) plan)) → Comes e (triesFrom t c slot plan)
-      slot-leaves z e =
-          e ∙ cut-on ceiling k (behindSlot t c s plan) (triesFrom t c (s + 1) plan) (r .trials) (sym (ended-on r z) ∙ is)
-          ∙ sym (ap (λ (r : Result). cut ceiling (after k r)) (opened h))
+      pub slot-found : {rest : ℕ} {back laid : List ℕ} → StepEnded (after 1 (behindSlot t c s plan)) left rest back laid ending.Found
+          → StepEnded (triesFrom t c slot plan) left rest (set plan c noSlotGiven) laid (endingAt s rest)
+      slot-found {rest} {back} {laid} x =
+          rw (at-found {left = rest} h (λ z. omega (arith, x .remains)))
+          (record { ended = ends (full laid (left - rest)) (x .ended) refl; fewer = x .fewer; remains = x .remains; size = x .size; undone = tt })
+
+      pub slot-stops : {rest : ℕ} {back laid : List ℕ} → StepEnded (after 1 (behindSlot t c s plan)) left rest back laid ending.Stopped
+          → StepEnded (triesFrom t c slot plan) left rest (set plan c noSlotGiven) laid (endingAt s rest)
+      slot-stops {rest} {back} {laid} x =
+          rw (at-stopped {left = rest} h (x .remains)) (record { ended = ends stopped (x .ended) refl; fewer = x .fewer; remains = x .remains; size = x .size; undone = tt })
+
+      pub slot-leaves : {between rest : ℕ} {laid last : List ℕ} {e : Ending} → StepEnded (after 1 (behindSlot t c s plan)) left between (set plan c s) laid ending.Nothing
+          → StepEnded (triesFrom t c (s + 1) laid) between rest (set laid c noSlotGiven) last e → StepEnded (triesFrom t c slot plan) left rest (set plan c noSlotGiven) last e
+      slot-leaves {between} {rest} {laid} {last} {e} x y =
+          let same : triesFrom t c (s + 1) laid ≡ triesFrom t c (s + 1) plan = rw (x .undone) (slots-set t plan c s (s + 1)) in
+          let back : set laid c noSlotGiven ≡ set plan c noSlotGiven = rw (x .undone) (set-set plan c s noSlotGiven) in
+          let z : StepEnded (triesFrom t c (s + 1) plan) between rest (set plan c noSlotGiven) last e = rw (same, back) at y in
+          record {
+            ended =
+                ended-behind e last (triesFrom t c (s + 1) plan) between left rest (z .fewer) (x .fewer) (x .remains) (z .ended)
+                ∙ cut-on (left - 1) (behindSlot t c s plan) (triesFrom t c (s + 1) plan) (left - between) (x .ended)
+                ∙ sym (ap (cut (left - 1)) (opened h));
+            fewer = let a = z .fewer in let b = x .fewer in omega arith;
+            remains = z .remains;
+            size = z .size;
+            undone = z .undone;
+          }
 
   -- one slot: no trial is left for it, it does not stay, or it does
-  module _ (s : ℕ) where
-    pub slot-stopped : ceiling ≤ k → endedOf (record { plan = plan; ending = ending.Stopped; trials = k }) ≡ cut ceiling (after (k + 1) (behindSlot t c s plan))
-    slot-stopped h =
-        ended-stopped plan k ∙ sym (ap (cut ceiling) (sym (after-after k 1 (behindSlot t c s plan))) ∙ cut-over ceiling k (behindSlot t c s plan) h)
+  module _ (s : ℕ) (clear : Clear (c + 1) plan) where
+    pub slot-stopped : {back : List ℕ} → left - 1 ≡ 0 → StepEnded (after 1 (behindSlot t c s plan)) left (left - 1) back plan ending.Stopped
+    slot-stopped z =
+        record {
+          ended = sym (cut-over (left - 1) 1 (behindSlot t c s plan) (omega arith));
+          fewer = omega arith;
+          remains = z;
+          size = clear .size;
+          undone = tt;
+        }
 
-    pub slot-vain : k < ceiling → t .stays c (set plan c s) ≡ false
-        → endedOf (record { plan = plan; ending = ending.Nothing; trials = k + 1 }) ≡ cut ceiling (after (k + 1) (behindSlot t c s plan))
+    pub slot-vain : left - 1 ≢ 0 → t .stays c (set plan c s) ≡ false → StepEnded (after 1 (behindSlot t c s plan)) left (left - 1) (set plan c s) (set plan c s) ending.Nothing
     unfolding behindSlot
-    slot-vain h st =
-        let z : k + 1 + 0 ≡ k + 1 = omega arith in
-        rw st (ended-none plan (k + 1) ∙ rw (z, le-leb (k + 1) ceiling (omega arith)) refl)
+    slot-vain n st =
+        let one : left - (left - 1) ≡ 1 = omega arith in
+        record {
+          ended = rw (st, one, le-leb 1 (left - 1) (omega arith)) refl;
+          fewer = omega arith;
+          remains = omega arith;
+          size = length-set plan c s ∙ clear .size;
+          undone = refl;
+        }
 
-    pub slot-stays : {e : Ended} → t .stays c (set plan c s) ≡ true → e ≡ cut ceiling (after (k + 1) (callsFrom t (c + 1) (set plan c s)))
-        → e ≡ cut ceiling (after (k + 1) (behindSlot t c s plan))
+    pub slot-stays : {rest : ℕ} {back laid : List ℕ} {e : Ending} → left - 1 ≢ 0 → t .stays c (set plan c s) ≡ true
+        → StepEnded (callsFrom t (c + 1) (set plan c s)) (left - 1) rest back laid e → StepEnded (after 1 (behindSlot t c s plan)) left rest back laid e
     unfolding behindSlot
-    slot-stays st e = rw st e
-
-    -- and what one in vain leaves is within the ceiling
-    pub slot-within : (r : Laid) → r .ending ≡ ending.Nothing → endedOf r ≡ cut ceiling (after (k + 1) (behindSlot t c s plan)) → r .trials ≤ ceiling
-    slot-within r z e = cut-within ceiling (after (k + 1) (behindSlot t c s plan)) (r .trials) (sym (ended-on r z) ∙ e)
+    slot-stays {rest} {back} {laid} {e} n st x =
+        let one : left - (left - 1) ≡ 1 = omega arith in
+        let behind = ended-behind e laid (callsFrom t (c + 1) (set plan c s)) (left - 1) left rest (x .fewer) (omega arith) (omega arith) (x .ended) in
+        record {
+          ended = rw st (rw one at behind);
+          fewer = let a = x .fewer in omega arith;
+          remains = x .remains;
+          size = x .size;
+          undone = x .undone;
+        }

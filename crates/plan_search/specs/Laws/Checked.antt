@@ -1,5 +1,5 @@
 -- A PLAN THAT IS FOUND IS KEPT BY THE CHECK (SCOPE 5.7, 5.9): its bytes pass 32 and 33, and it is full. Assumes nothing.
-use mathlib.Core.Path.{_≡_, refl, sym, ap, subst, _∙_}
+use mathlib.Core.Path.{_≡_, refl, sym, ap, _∙_}
 use mathlib.Core.Bool.{Bool, true, false, cond}
 use mathlib.Core.List.{List}
 use mathlib.Core.Logic.{_⊎_, inl, inr}
@@ -25,10 +25,10 @@ use Rattle.plan_model.specs.declared.answer.PlanCheck.the-variants as plan
 use Rattle.plan_model.specs.Plans.{planSize, slotIn}
 use Rattle.plan_model.specs.Check.{badPlanLength?, wrongByte?, wrongPlan?, planConditions, PlanPromise}
 use Rattle.plan_model.specs.Laws.Kept.{kept-exactly}
-use Rattle.plan_search.specs.declared.answer.FirstPlan.{FirstPlan}
 use Rattle.plan_search.specs.declared.answer.FirstPlan.the-variants as first
 use Rattle.plan_search.specs.declared.answer.PlanAnswer.{PlanAnswer}
-use Rattle.plan_search.specs.First.{firstNumber, FoundFirst, FirstMeans, FirstPromise}
+use Rattle.plan_search.specs.First.{firstNumber, FoundFirst, FirstPromise}
+use Rattle.plan_search.specs.Laws.Exactly.{found-is-first}
 
 -- THE BYTES OF A FULL PLAN pass 33, where those of calls that are not on the board are 255
 module _ (B : Board) (bytes : List ℕ) (full : FullPlan B (slotIn bytes)) (blank : (c : ℕ) → length (B .counts) ≤ c → slotIn bytes c ≡ noSlotGiven) where
@@ -60,7 +60,7 @@ module _ (L : Ledger) (shape : LedgerShape L) (s : State) (rep : Represents L s)
   not-refused = sym (promise .answered L shape rep .number) ∙ ap firstNumber is
 
   found-so : FoundFirst (L .board) ceiling (given .plan) n
-  found-so = subst (λ (a : FirstPlan). FirstMeans (L .board) ceiling (given .plan) a) is (promise .answered L shape rep .means not-refused)
+  found-so = found-is-first L shape s rep not-refused ceiling given promise n is
 
   plan-passes : firstOf (planConditions L (lentOf s) (given .plan)) ≡ 0
   plan-passes =

@@ -19,7 +19,7 @@ use Rattle.model.specs.Laws.Theory.{on-count, live-not, not-live, active-below,
 use Rattle.plan_model.specs.Plans.{planSize, rulesOf, slotIn, fitted?}
 use Rattle.plan_model.specs.Laws.Fits.{fitted→, →fitted, column-force}
 use Rattle.plan_search.specs.Search.{Result, found, nothing, Task, laid?, stays?}
-use Rattle.plan_search.specs.First.{noPlan, boardTask, searchAll, Before}
+use Rattle.plan_search.specs.First.{noPlan, Clear, boardTask, searchAll, Before}
 use Rattle.plan_search.specs.Laws.Complete.{IfFound, FoundWith, NotBefore, search-invariant, search-complete}
 use Rattle.plan_search.specs.Laws.Stays.{not-laid, slot-laid, RuleDue, stays→, →stays}
 
@@ -28,6 +28,9 @@ pub no-slot : (c : ℕ) → slotIn noPlan c ≡ noSlotGiven
 no-slot c =
     ⊎-elim (λ h. getD-replicate planSize c noSlotGiven noSlotGiven h)
     (λ (h : planSize ≤ c). let le : length noPlan ≤ c = h in List·getD-eq-default noPlan noSlotGiven le) (lt-or-le c planSize)
+
+pub clear-first : Clear 0 noPlan
+clear-first = record { size = length-replicate {A = ℕ} planSize noSlotGiven; none = λ d h. no-slot d }
 
 module _ (B : Board) (shape : Shape B) where
   abbrev t : Task

@@ -5,18 +5,18 @@ use mathlib.Core.List.{List}
 use mathlib.Core.Logic.{_⊎_, inl, inr}
 use Prim.Native.Nat.{ℕ, zero, suc, _+_, _<_, _≤_}
 use native.Mathlib.Omega.{arith}
-use lib.ListN.{length, set, length-set, length-replicate}
-use lib.Seq.{getD-set-same, getD-set-other, set-set, set-getD}
+use lib.ListN.{set}
+use lib.Seq.{getD-set-same, set-set}
 use lib.Dec.{ltb}
 use borrow.Author.Tests.{lt-ltb}
 use Rattle.tables.specs.Laws.Facts.{true-false, true-or-false}
 use Rattle.model.specs.Board.{noSlotGiven}
 use Rattle.plan_model.specs.Plans.{slotIn}
 use Rattle.plan_search.specs.Search.{Result, found, nothing, after, orNext, Task, tries, search}
-use Rattle.plan_search.specs.First.{noPlan, searchAll}
+use Rattle.plan_search.specs.First.{noPlan, Clear, searchAll}
 use Rattle.plan_search.specs.Moves.{Position, trying, backtracking, complete, exhausted, Move, finishes, skips-call, skips-slot, lays-slot, lays-in-vain, runs-out, retries, skips-back, gives-up, Leads, rests, moves, searchStart, Final, endOf}
-use Rattle.plan_search.specs.Laws.Search.{tries-end, tries-closed, tries-stays, tries-leaves, search-end, search-skips, search-lays}
-use Rattle.plan_search.specs.Laws.Full.{no-slot}
+use Rattle.plan_search.specs.Laws.Search.{tries-end, tries-closed, tries-stays, tries-leaves, search-end, search-skips, search-lays, clear-later, clear-set, clear-away}
+use Rattle.plan_search.specs.Laws.Full.{clear-first}
 
 joins : {t : Task} {x y z : Position} → Leads t x y → Leads t y z → Leads t x z
 joins rests g = g
@@ -26,18 +26,6 @@ joins (moves m f) g = moves m (joins f g)
 abbrev ComesTo : Task → Position → ℕ → List ℕ → ℕ → Result → Type 0
 ComesTo t x c plan k (found q n) = Leads t x (complete q (k + n))
 ComesTo t x c plan k (nothing n) = Leads t x (backtracking c plan (k + n))
-
--- no call is laid from c on
-record Clear (c : ℕ) (plan : List ℕ) : Type 0 where
-  size : length plan ≡ 32
-  none : (d : ℕ) → c ≤ d → slotIn plan d ≡ noSlotGiven
-
-clear-set : (c s : ℕ) (plan : List ℕ) → Clear c plan → Clear (suc c) (set plan c s)
-clear-set c s plan x =
-    record {
-      size = length-set plan c s ∙ x .size;
-      none = λ d h. getD-set-other plan c d s noSlotGiven (λ e. omega arith) ∙ x .none d (omega arith);
-    }
 
 module _ (t : Task) where
   after-moves : {x y : Position} (c : ℕ) (plan : List ℕ) (k n : ℕ) (r : Result) → Leads t x y → ComesTo t y c plan (k + n) r → ComesTo t x c plan k (after n r)
@@ -55,7 +43,7 @@ module _ (t : Task) where
 
     -- a slot that is taken away leaves the plan as it was
     taken-away : (s : ℕ) → set (set plan c s) c noSlotGiven ≡ plan
-    taken-away s = set-set plan c s noSlotGiven ∙ ap (set plan c) (sym (clear .none c (omega arith))) ∙ set-getD plan c noSlotGiven
+    taken-away s = set-set plan c s noSlotGiven ∙ clear-away c plan clear
 
     retry : (s k : ℕ) → Move t (backtracking (suc c) (set plan c s) k) (trying c (suc s) plan k)
     retry s k =
@@ -92,7 +80,7 @@ module _ (t : Task) where
         go (inl o) (inl st) rest =
             rw (tries-stays t deeper c m s plan o st)
             (or-next s k (deeper (set plan c s)) (tries t deeper c m (suc s) plan) (lays-slot hc (omega arith) lays o st)
-            (behind (set plan c s) (suc k) (clear-set c s plan clear)) rest)
+            (behind (set plan c s) (suc k) (clear-set c s plan (omega arith) (clear-later (omega arith) clear))) rest)
         go (inl o) (inr st) rest =
             let z : suc k ≡ k + 1 + 0 = omega arith in
             rw (tries-leaves t deeper c m s plan o st)
@@ -114,7 +102,7 @@ module _ (t : Task) where
       go (inl l) ih = rw (search-lays t n c plan l) (tries-lead n c (omega arith) plan x l (λ laid j y. ih j laid y) 32 0 k refl)
       go (inr l) ih =
           rw (search-skips t n c plan l)
-          (over (search t n (suc c) plan) (ih k plan (record { size = x .size; none = λ d h. x .none d (omega arith) })))
+          (over (search t n (suc c) plan) (ih k plan (clear-later (omega arith) x)))
         where
           over : (r : Result) → ComesTo t (trying (suc c) 0 plan k) (suc c) plan k r → ComesTo t (trying c 0 plan k) c plan k r
           over (found q m) f = moves (skips-call {c = c} (omega arith) l) f
@@ -125,7 +113,7 @@ module _ (t : Task) where
   unfolding searchAll
   start-leads =
       go (search t 32 0 noPlan)
-      (search-leads 32 0 0 noPlan refl (record { size = length-replicate {A = ℕ} 32 noSlotGiven; none = λ d h. no-slot d }))
+      (search-leads 32 0 0 noPlan refl clear-first)
     where
       go : (r : Result) → ComesTo t searchStart 0 noPlan 0 r → Leads t searchStart (endOf r)
       go (found q n) f = let z : 0 + n ≡ n = omega arith in rw z at f

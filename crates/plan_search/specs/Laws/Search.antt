@@ -5,12 +5,14 @@ use mathlib.Core.List.{List}
 use mathlib.Core.Logic.{_⊎_, inl, inr}
 use Prim.Native.Nat.{ℕ, zero, suc, _+_, _<_, _≤_}
 use native.Mathlib.Omega.{arith}
-use lib.ListN.{set}
+use lib.ListN.{set, length-set}
+use lib.Seq.{set-set, set-getD, getD-set-other}
 use lib.Dec.{leb}
-use borrow.Author.Tests.{leb-true, leb-false, lt-leb}
+use borrow.Author.Tests.{leb-true, leb-false, le-leb, lt-leb}
 use Rattle.tables.specs.Laws.Facts.{true-false, true-or-false}
 use Rattle.plan_search.specs.Search.{Result, found, nothing, after, orNext, Task, tries, search}
-use Rattle.plan_search.specs.First.{Ended, full, none, stopped, cut}
+use Rattle.model.specs.Board.{noSlotGiven}
+use Rattle.plan_search.specs.First.{Clear, Ended, full, none, stopped, cut}
 
 -- THE CLAUSES of the search, as equations
 module _ (t : Task) (deeper : List ℕ → Result) (c m s : ℕ) (plan : List ℕ) where
@@ -104,58 +106,82 @@ pub after-none : (r : Result) → after 0 r ≡ r
 after-none (found plan n) = let e : 0 + n ≡ n = omega arith in rw e refl
 after-none (nothing n) = let e : 0 + n ≡ n = omega arith in rw e refl
 
--- UNDER THE CEILING. A search that ends with none lets the call before go on
+-- NO CALL IS LAID FROM c ON: nor from a later one on, whatever the calls before that get; and to take nothing away leaves the plan as it was
+pub clear-later : {c d : ℕ} {plan : List ℕ} → c ≤ d → Clear c plan → Clear d plan
+clear-later le x = record { size = x .size; none = λ e h. x .none e (omega arith) }
+
+pub clear-set : (c s : ℕ) {d : ℕ} (plan : List ℕ) → c < d → Clear d plan → Clear d (set plan c s)
+clear-set c s plan lt x =
+    record {
+      size = length-set plan c s ∙ x .size;
+      none = λ e h. getD-set-other plan c e s noSlotGiven (λ z. omega arith) ∙ x .none e h;
+    }
+
+pub clear-away : (c : ℕ) (plan : List ℕ) → Clear c plan → set plan c noSlotGiven ≡ plan
+clear-away c plan x = ap (set plan c) (sym (x .none c (omega arith))) ∙ set-getD plan c noSlotGiven
+
+-- what the plan has for a call does not matter to the trials of its slots
+pub tries-set : (t : Task) (deeper : List ℕ → Result) (c v m s : ℕ) (plan : List ℕ) → tries t deeper c m s (set plan c v) ≡ tries t deeper c m s plan
+tries-set t deeper c v zero s plan = tries-end t deeper c s (set plan c v) ∙ sym (tries-end t deeper c s plan)
+tries-set t deeper c v (suc m) s plan = go (true-or-false (t .opens c s)) (tries-set t deeper c v m (suc s) plan)
+  where
+    go : (t .opens c s ≡ true) ⊎ (t .opens c s ≡ false) → tries t deeper c m (suc s) (set plan c v) ≡ tries t deeper c m (suc s) plan
+        → tries t deeper c (suc m) s (set plan c v) ≡ tries t deeper c (suc m) s plan
+    go (inl o) rest = tries-open t deeper c m s (set plan c v) o ∙ rw (set-set plan c v s, rest) refl ∙ sym (tries-open t deeper c m s plan o)
+    go (inr o) rest = tries-closed t deeper c m s (set plan c v) o ∙ rest ∙ sym (tries-closed t deeper c m s plan o)
+
+-- UNDER A CEILING. A search that ends with none lets the call before go on
 abbrev pub goesOn? : Ended → Bool
 goesOn? (full plan n) = false
 goesOn? (none n) = true
 goesOn? stopped = false
 
--- after k trials
-module _ (ceiling k : ℕ) where
-  -- no trial is left, and one is needed
-  pub cut-over : (r : Result) → ceiling ≤ k → cut ceiling (after k (after 1 r)) ≡ stopped
-  cut-over (found plan n) h = rw (lt-leb (k + (1 + n)) ceiling (omega arith)) refl
-  cut-over (nothing n) h = rw (lt-leb (k + (1 + n)) ceiling (omega arith)) refl
+-- an end with n trials before it
+abbrev pub later : ℕ → Ended → Ended
+later n (full plan m) = full plan (n + m)
+later n (none m) = none (n + m)
+later n stopped = stopped
 
+-- n trials are made, and what follows them ends under what is left
+pub cut-later : (n ceiling : ℕ) (r : Result) → cut (n + ceiling) (after n r) ≡ later n (cut ceiling r)
+cut-later n ceiling (found plan m) = go (true-or-false (leb m ceiling))
+  where
+    go : (leb m ceiling ≡ true) ⊎ (leb m ceiling ≡ false) → cut (n + ceiling) (after n (found plan m)) ≡ later n (cut ceiling (found plan m))
+    go (inl l) = let h = leb-true m ceiling l in rw (l, le-leb (n + m) (n + ceiling) (omega arith)) refl
+    go (inr l) = let h = leb-false m ceiling l in rw (l, lt-leb (n + m) (n + ceiling) (omega arith)) refl
+cut-later n ceiling (nothing m) = go (true-or-false (leb m ceiling))
+  where
+    go : (leb m ceiling ≡ true) ⊎ (leb m ceiling ≡ false) → cut (n + ceiling) (after n (nothing m)) ≡ later n (cut ceiling (nothing m))
+    go (inl l) = let h = leb-true m ceiling l in rw (l, le-leb (n + m) (n + ceiling) (omega arith)) refl
+    go (inr l) = let h = leb-false m ceiling l in rw (l, lt-leb (n + m) (n + ceiling) (omega arith)) refl
+
+-- more trials are needed than the ceiling
+pub cut-over : (ceiling n : ℕ) (r : Result) → ceiling < n → cut ceiling (after n r) ≡ stopped
+cut-over ceiling n (found plan m) h = rw (lt-leb (n + m) ceiling (omega arith)) refl
+cut-over ceiling n (nothing m) h = rw (lt-leb (n + m) ceiling (omega arith)) refl
+
+module _ (ceiling : ℕ) where
   -- the calls behind a slot end the search
-  pub cut-first : (r rest : Result) (e : Ended) → e ≡ cut ceiling (after (k + 1) r) → goesOn? e ≡ false → e ≡ cut ceiling (after k (after 1 (orNext r rest)))
-  cut-first (found plan n) rest e is off = let z : k + (1 + n) ≡ k + 1 + n = omega arith in rw z is
-  cut-first (nothing n) rest e is off = go (true-or-false (leb (k + 1 + n) ceiling))
+  pub cut-first : (r rest : Result) (e : Ended) → e ≡ cut ceiling (after 1 r) → goesOn? e ≡ false → e ≡ cut ceiling (after 1 (orNext r rest))
+  cut-first (found plan n) rest e is off = is
+  cut-first (nothing n) rest e is off = go (true-or-false (leb (1 + n) ceiling))
     where
-      go : (leb (k + 1 + n) ceiling ≡ true) ⊎ (leb (k + 1 + n) ceiling ≡ false) → e ≡ cut ceiling (after k (after 1 (after n rest)))
-      go (inl l) = let x : e ≡ none (k + 1 + n) = is ∙ rw l refl in absurd (true-false (ap goesOn? x) off)
-      go (inr l) =
-          is ∙ rw l refl ∙ sym (ap (cut ceiling) (after-after k 1 (after n rest) ∙ after-after (k + 1) n rest) ∙ over rest (leb-false (k + 1 + n) ceiling l))
-        where
-          over : (rest : Result) → ceiling < k + 1 + n → cut ceiling (after (k + 1 + n) rest) ≡ stopped
-          over (found plan m) h = rw (lt-leb (k + 1 + n + m) ceiling (omega arith)) refl
-          over (nothing m) h = rw (lt-leb (k + 1 + n + m) ceiling (omega arith)) refl
+      go : (leb (1 + n) ceiling ≡ true) ⊎ (leb (1 + n) ceiling ≡ false) → e ≡ cut ceiling (after 1 (after n rest))
+      go (inl l) = let x : e ≡ none (1 + n) = is ∙ rw l refl in absurd (true-false (ap goesOn? x) off)
+      go (inr l) = is ∙ rw l refl ∙ sym (ap (cut ceiling) (after-after 1 n rest) ∙ cut-over ceiling (1 + n) rest (leb-false (1 + n) ceiling l))
 
-  -- they end with none after n trials in all: the search goes on with that count, which is within the ceiling
-  pub cut-on : (r rest : Result) (n : ℕ) → none n ≡ cut ceiling (after (k + 1) r) → cut ceiling (after n rest) ≡ cut ceiling (after k (after 1 (orNext r rest)))
-  cut-on (found plan m) rest n is = absurd (never (leb (k + 1 + m) ceiling) is)
+  -- they end with none after n trials in all: the search goes on behind these
+  pub cut-on : (r rest : Result) (n : ℕ) → none n ≡ cut ceiling (after 1 r) → cut ceiling (after n rest) ≡ cut ceiling (after 1 (orNext r rest))
+  cut-on (found plan m) rest n is = absurd (never (leb (1 + m) ceiling) is)
     where
-      never : (b : Bool) → none n ≡ cond b (full plan (k + 1 + m)) stopped → ⊥
+      never : (b : Bool) → none n ≡ cond b (full plan (1 + m)) stopped → ⊥
       never true e = true-false (sym (ap goesOn? e)) refl
       never false e = true-false (sym (ap goesOn? e)) refl
-  cut-on (nothing m) rest n is = go (true-or-false (leb (k + 1 + m) ceiling))
+  cut-on (nothing m) rest n is = go (true-or-false (leb (1 + m) ceiling))
     where
-      go : (leb (k + 1 + m) ceiling ≡ true) ⊎ (leb (k + 1 + m) ceiling ≡ false) → cut ceiling (after n rest) ≡ cut ceiling (after k (after 1 (after m rest)))
+      go : (leb (1 + m) ceiling ≡ true) ⊎ (leb (1 + m) ceiling ≡ false) → cut ceiling (after n rest) ≡ cut ceiling (after 1 (after m rest))
       go (inl l) =
-          let e : none n ≡ none (k + 1 + m) = is ∙ rw l refl in
-          let z : n ≡ k + 1 + m = cc in
-          rw z (sym (ap (cut ceiling) (after-after k 1 (after m rest) ∙ after-after (k + 1) m rest)))
+          let e : none n ≡ none (1 + m) = is ∙ rw l refl in
+          let z : n ≡ 1 + m = cc in
+          rw z (sym (ap (cut ceiling) (after-after 1 m rest)))
       go (inr l) = let e : none n ≡ stopped = is ∙ rw l refl in absurd (true-false (sym (ap goesOn? e)) refl)
-
--- none comes within the ceiling
-pub cut-within : (ceiling : ℕ) (r : Result) (n : ℕ) → none n ≡ cut ceiling r → n ≤ ceiling
-cut-within ceiling (found plan m) n is = absurd (never (leb m ceiling) is)
-  where
-    never : (b : Bool) → none n ≡ cond b (full plan m) stopped → ⊥
-    never true e = true-false (sym (ap goesOn? e)) refl
-    never false e = true-false (sym (ap goesOn? e)) refl
-cut-within ceiling (nothing m) n is = go (true-or-false (leb m ceiling))
-  where
-    go : (leb m ceiling ≡ true) ⊎ (leb m ceiling ≡ false) → n ≤ ceiling
-    go (inl l) = let e : none n ≡ none m = is ∙ rw l refl in let z : n ≡ m = cc in omega (arith, leb-true m ceiling l)
-    go (inr l) = let e : none n ≡ stopped = is ∙ rw l refl in absurd (true-false (sym (ap goesOn? e)) refl)

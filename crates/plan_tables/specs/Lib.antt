@@ -1,0 +1,4 @@
+pub mod Lookup
+pub mod Due
+pub mod Fit
+pub mod Laws
