@@ -112,7 +112,7 @@ fn fits(ledger: &Ledger, rule: &Rule, row: [u8; 4], plan: &Plan) -> bool {
     rule.cells(row).all(|(call, slot)| ledger.is_cancelled(call) || plan[call as usize] == slot)
 }
 
-/// A rule with at least one laid call, whose calls are all laid or cancelled.
+/// Some call of the rule is laid, and each of the others is too, or is cancelled.
 fn is_due(ledger: &Ledger, rule: &Rule, plan: &Plan) -> bool {
     let is_laid = |call: &u8| plan[*call as usize] != 255;
     rule.calls.iter().any(is_laid) && rule.calls.iter().all(|call| is_laid(call) || ledger.is_cancelled(*call))
