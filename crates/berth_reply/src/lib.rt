@@ -13,7 +13,7 @@ use plan_search::answer::{FirstPlan, PlanAnswer};
 
 // What a command changed: S, R and T (SCOPE 3.7), which are 0 where refused.
 #[repr(C)]
-#[derive(Drop)]
+#[derive(Clone, Copy)]
 pub struct CommandReply {
     // slots open before and struck after
     pub struck: usize,
@@ -25,7 +25,7 @@ pub struct CommandReply {
 
 // How many commands of a file were run, and how it ended.
 #[repr(C)]
-#[derive(Drop)]
+#[derive(Clone, Copy)]
 pub struct ReplayReply {
     pub ran: usize,
     pub number: u8,
@@ -33,7 +33,7 @@ pub struct ReplayReply {
 
 // The mask of a call's open slots and the number of its ones; 0 and 0 where refused.
 #[repr(C)]
-#[derive(Drop)]
+#[derive(Clone, Copy)]
 pub struct SlotsReply {
     pub mask: u32,
     pub ones: u32,
@@ -42,7 +42,7 @@ pub struct SlotsReply {
 
 // The cause of a struck slot; 255 of an open one, 253 of one of a cancelled call, 254 where refused.
 #[repr(C)]
-#[derive(Drop)]
+#[derive(Clone, Copy)]
 pub struct StateReply {
     pub number: u8,
     pub cause: u8,
@@ -50,7 +50,7 @@ pub struct StateReply {
 
 // The killer's column of a dead row; 255 of one that is alive, 254 where refused.
 #[repr(C)]
-#[derive(Drop)]
+#[derive(Clone, Copy)]
 pub struct RowReply {
     pub number: u8,
     pub killer: u8,
@@ -58,7 +58,7 @@ pub struct RowReply {
 
 // Where a row's bytes start in the lent row buffer, and how many there are: 4, or 0 where refused.
 #[repr(C)]
-#[derive(Drop)]
+#[derive(Clone, Copy)]
 pub struct PlaceReply {
     pub place: usize,
     pub length: usize,
@@ -66,7 +66,7 @@ pub struct PlaceReply {
 
 // The number of the lowest supporting row; 255 where there is none, 254 where refused.
 #[repr(C)]
-#[derive(Drop)]
+#[derive(Clone, Copy)]
 pub struct SupportReply {
     pub number: u8,
     pub row: u8,
@@ -74,7 +74,7 @@ pub struct SupportReply {
 
 // The lowest number of a rule that the plan breaks; 255 where it is kept, 254 where refused.
 #[repr(C)]
-#[derive(Drop)]
+#[derive(Clone, Copy)]
 pub struct PlanReply {
     pub number: u8,
     pub broken: u8,
@@ -82,7 +82,7 @@ pub struct PlanReply {
 
 // The trials of a search, how it ended, and the plan: 1 with a plan, 0 with none, 2 at the ceiling, 254 where refused. A byte of the plan is 255 where no slot is laid.
 #[repr(C)]
-#[derive(Drop)]
+#[derive(Clone, Copy)]
 pub struct FirstReply {
     pub trials: u32,
     pub number: u8,

@@ -5,7 +5,7 @@ ghost use Rattle.command_draft.specs.Drafts.{draft_outcome};
 use layout::value::{Draft, Value};
 use model::answer::Outcome;
 
-#[derive(Drop)]
+#[derive(Clone, Copy)]
 pub struct Redrafted {
     // the refusal's number, or 0 for none
     pub number: u8,

@@ -23,7 +23,7 @@ use summary_counts::records::table_of;
 // The longest file that is read.
 const FILE: usize = 32768;
 
-#[derive(Drop)]
+#[derive(Clone, Copy)]
 pub struct Replayed {
     // the value that is left beside the buffers
     pub value: Value,
@@ -34,7 +34,7 @@ pub struct Replayed {
 }
 
 // How far the file has been taken.
-#[derive(Drop)]
+#[derive(Clone, Copy)]
 pub struct Position {
     pub value: Value,
     // the place to read at next
@@ -45,7 +45,7 @@ pub struct Position {
 }
 
 // What is left of a file, and the first so many records to be stored, none or all.
-#[derive(Drop)]
+#[derive(Clone, Copy)]
 pub struct ReplayDone {
     pub replayed: Replayed,
     pub count: usize,

@@ -5,7 +5,7 @@ use crate::pairs::{Test, list_pairs};
 use layout::value::{Draft, RuleData};
 use model::command::GapRule;
 
-#[derive(Drop)]
+#[derive(Clone, Copy)]
 pub struct GapDraft {
     pub draft: Draft,
     // how many pairs fit; where it is over 64 the draft is not the form's

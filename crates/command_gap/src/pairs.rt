@@ -7,14 +7,14 @@ use crate::fits::fits;
 use layout::places::cap;
 
 // A form and its gap, and the slots of the second call.
-#[derive(Drop)]
+#[derive(Clone, Copy)]
 pub struct Test {
     pub form: u8,
     pub gap: u8,
     pub seconds: u8,
 }
 
-#[derive(Drop)]
+#[derive(Clone, Copy)]
 pub struct Pairs {
     // row w from 4 * w on; 255 past the two columns and past the rows
     pub rows: [u8; 256],

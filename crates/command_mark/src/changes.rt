@@ -30,7 +30,7 @@ pub fn count_struck(before: &[u8], after: &[u8]) -> usize
     n
 }
 
-#[derive(Drop)]
+#[derive(Clone, Copy)]
 pub struct Changes {
     pub struck: usize,
     pub reopened: usize,

@@ -21,7 +21,7 @@ use model::refusal::{BODY_LENGTH, BUFFER_LENGTH, TABLE_LENGTH, UNKNOWN_KIND};
 use summary_counts::records::table_of;
 
 // What is left of a command: its outcome, and the first so many records to be stored, none or all.
-#[derive(Drop)]
+#[derive(Clone, Copy)]
 pub struct Done {
     pub outcome: Outcome,
     pub count: usize,

@@ -18,7 +18,7 @@ use filter_relax::reopen::difference;
 use layout::places::CANCELLED;
 
 // How many slots of other calls came back, and how many of other calls were touched.
-#[derive(Drop)]
+#[derive(Clone, Copy)]
 pub struct Cancellation {
     pub reopened: usize,
     pub touched: usize,

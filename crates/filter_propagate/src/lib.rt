@@ -18,7 +18,7 @@ use filter_support::rows::revise_columns;
 use filter_support::strikes::strike_columns;
 
 // How many slots a revision struck, the calls where one was, and the calls whose masks are known after it.
-#[derive(Drop)]
+#[derive(Clone, Copy)]
 pub struct RevisionDone {
     pub number: usize,
     pub calls: u32,
@@ -26,7 +26,7 @@ pub struct RevisionDone {
 }
 
 // How many slots a step struck, the rules that are pending after it, and the calls whose masks are known.
-#[derive(Drop)]
+#[derive(Clone, Copy)]
 pub struct StepDone {
     pub struck: usize,
     pub pending: u64,

@@ -9,7 +9,7 @@ ghost use Rattle.filter_relax.specs.Closure.{traversal, Expanded, Closed};
 ghost use Rattle.layout.specs.Bounds.{Sizes};
 
 // The calls with a visited slot, and the rules that are to be scanned.
-#[derive(Drop)]
+#[derive(Clone, Copy)]
 pub struct Frontier {
     pub calls: u32,
     pub pending: u64,

@@ -21,7 +21,7 @@ ghost use Rattle.filter_relax.specs.Relaxed.{Relaxed};
 ghost use Rattle.layout.specs.Bounds.{Sizes};
 
 // How many slots were touched, and the rules on the call of one of them.
-#[derive(Drop)]
+#[derive(Clone, Copy)]
 pub struct Relaxation {
     pub touched: usize,
     pub pending: u64,

@@ -18,7 +18,7 @@ use filter_relax::reopen::difference;
 use layout::value::RuleData;
 
 // How many slots came back, and how many were touched.
-#[derive(Drop)]
+#[derive(Clone, Copy)]
 pub struct Retraction {
     pub reopened: usize,
     pub touched: usize,

@@ -8,7 +8,7 @@ ghost use Rattle.filter_support.specs.Strikes.{SlotsStruck, CallWith, AllOpen, L
 use masks::columns::Columns;
 
 // How many slots were struck, and the calls where one was.
-#[derive(Drop)]
+#[derive(Clone, Copy)]
 pub struct StrikeCount {
     pub number: usize,
     pub calls: u32,

@@ -14,7 +14,7 @@ pub const NAMES: usize = 834;
 
 // All that a host holds beside the buffers.
 #[repr(C)]
-#[derive(Drop)]
+#[derive(Clone, Copy)]
 pub struct MarkedValue {
     pub value: Value,
     pub names: [u8; NAMES],

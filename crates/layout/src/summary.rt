@@ -4,7 +4,7 @@ ghost use Rattle.layout.specs.Summary.{no_table};
 
 // A call's figures; all 0 for a call that is not on the board.
 #[repr(C)]
-#[derive(Drop)]
+#[derive(Clone, Copy)]
 pub struct Summary {
     // its open slots
     pub open: u8,
@@ -16,7 +16,7 @@ pub struct Summary {
 
 // The 32 records by value.
 #[repr(C)]
-#[derive(Drop)]
+#[derive(Clone, Copy)]
 pub struct Table {
     pub records: [Summary; 32],
 }

@@ -5,7 +5,7 @@ ghost use Rattle.layout.specs.Sizes.{bad_lent?};
 
 // The calls and the heads of the rules in force.
 #[repr(C)]
-#[derive(Drop)]
+#[derive(Clone, Copy)]
 pub struct Heads {
     // slots of each call; 0 after the last call
     pub counts: [u8; 32],
@@ -19,7 +19,7 @@ pub struct Heads {
 
 // A rule as data. An arity of 0 means that there is none.
 #[repr(C)]
-#[derive(Drop)]
+#[derive(Clone, Copy)]
 pub struct RuleData {
     pub arity: u8,
     // its calls; 255 past its columns
@@ -32,14 +32,14 @@ pub struct RuleData {
 
 // The rule that is being written, and the number that it is to come into force under.
 #[repr(C)]
-#[derive(Drop)]
+#[derive(Clone, Copy)]
 pub struct Draft {
     pub number: u8,
     pub rule: RuleData,
 }
 
 #[repr(C)]
-#[derive(Drop)]
+#[derive(Clone, Copy)]
 pub struct Value {
     pub heads: Heads,
     pub draft: Draft,

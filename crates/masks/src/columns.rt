@@ -5,7 +5,7 @@ ghost use Rattle.masks.specs.Columns.{column_of, word_at, RowMasks, first_two, f
 ghost use Rattle.layout.specs.Bounds.{InRow};
 
 // A set of slots for each of four columns.
-#[derive(Drop)]
+#[derive(Clone, Copy)]
 pub struct Columns {
     pub c0: u32,
     pub c1: u32,

@@ -5,7 +5,7 @@ ghost use Rattle.model.specs.Promise.{refused_with, accepted_with};
 use layout::value::Value;
 
 // What an accepted command changed: S, R and T (SCOPE 3.7).
-#[derive(Drop)]
+#[derive(Clone, Copy)]
 pub struct Report {
     // slots open before and struck after
     pub struck: usize,
@@ -14,7 +14,7 @@ pub struct Report {
     pub touched: usize,
 }
 
-#[derive(Drop)]
+#[derive(Clone, Copy)]
 pub enum Answer {
     Accepted(Report),
     // the refusal's number
@@ -22,7 +22,7 @@ pub enum Answer {
 }
 
 // The answer to a command, and the value that it leaves beside the buffers.
-#[derive(Drop)]
+#[derive(Clone, Copy)]
 pub struct Outcome {
     pub answer: Answer,
     pub value: Value,
@@ -56,7 +56,7 @@ impl Outcome {
 }
 
 // The slots of a call.
-#[derive(Drop)]
+#[derive(Clone, Copy)]
 pub enum OpenSlots {
     // a bit for each open slot, and the number of ones
     Mask(u32, u32),
@@ -64,7 +64,7 @@ pub enum OpenSlots {
 }
 
 // The state of a slot.
-#[derive(Drop)]
+#[derive(Clone, Copy)]
 pub enum SlotState {
     Open,
     // its cause
@@ -75,7 +75,7 @@ pub enum SlotState {
 }
 
 // The state of a row.
-#[derive(Drop)]
+#[derive(Clone, Copy)]
 pub enum RowState {
     Alive,
     // its killer's column
@@ -84,7 +84,7 @@ pub enum RowState {
 }
 
 // The lowest living row that holds a slot in a column of a rule.
-#[derive(Drop)]
+#[derive(Clone, Copy)]
 pub enum Support {
     Row(u8),
     Nothing,

@@ -1,7 +1,7 @@
 // The commands: what a file of them holds, and what stands at a place of it.
 
 // The head of a rule: kind 2's body. Calls past the arity are 255.
-#[derive(Drop)]
+#[derive(Clone, Copy)]
 pub struct Head {
     pub number: u8,
     pub arity: u8,
@@ -12,7 +12,7 @@ pub struct Head {
 }
 
 // A row of a rule: kind 3's body. Slots past the arity are 255.
-#[derive(Drop)]
+#[derive(Clone, Copy)]
 pub struct Row {
     pub slot0: u8,
     pub slot1: u8,
@@ -21,7 +21,7 @@ pub struct Row {
 }
 
 // A rule of two calls by the gap between their slots, order 3's standing form: kind 6's body.
-#[derive(Drop)]
+#[derive(Clone, Copy)]
 pub struct GapRule {
     // 1, 2 or 3
     pub form: u8,
@@ -32,7 +32,7 @@ pub struct GapRule {
 }
 
 // A command with its own fields. The 32 counts of kind 1 stand beside it.
-#[derive(Drop)]
+#[derive(Clone, Copy)]
 pub enum Command {
     Board,
     Head(Head),
@@ -51,7 +51,7 @@ pub enum Command {
 }
 
 // What stands at a place of a file.
-#[derive(Drop)]
+#[derive(Clone, Copy)]
 pub enum Read {
     Command(Command),
     // the kind's byte, and the refusal's number: 3 or 4
@@ -60,7 +60,7 @@ pub enum Read {
 }
 
 // What stands there, the slot counts where it is kind 1, and the place after it.
-#[derive(Drop)]
+#[derive(Clone, Copy)]
 pub struct Decoded {
     pub read: Read,
     pub counts: [u8; 32],

@@ -15,7 +15,7 @@ use plan_tables::due::due_rules;
 use plan_tables::lookup::{WORDS, call_slots, call_table, open_masks, row_words, rule_columns};
 
 // What a search ended with: the plan, where one is found, and the trials.
-#[derive(Drop)]
+#[derive(Clone, Copy)]
 pub struct Laid {
     pub plan: [u8; 32],
     pub ending: Ending,

@@ -11,7 +11,7 @@ use plan_tables::fit::rules_fit;
 use plan_tables::lookup::WORDS;
 
 // How the calls from one on ended, or those behind a slot.
-#[derive(Drop)]
+#[derive(Clone, Copy)]
 pub enum Ending {
     // each has a slot
     Found,

@@ -1,7 +1,7 @@
 // What the question about a plan answers.
 
 // The check of a plan.
-#[derive(Drop)]
+#[derive(Clone, Copy)]
 pub enum PlanCheck {
     // it keeps every rule in force
     Kept,

@@ -1,7 +1,7 @@
 // What the question for the first full plan answers.
 
 // How the search ended, with its trials.
-#[derive(Drop)]
+#[derive(Clone, Copy)]
 pub enum FirstPlan {
     Found(u32),
     // there is no full plan
@@ -12,7 +12,7 @@ pub enum FirstPlan {
 }
 
 // The answer, and beside it the plan: 255 for calls that are not laid, and throughout where no plan is found.
-#[derive(Drop)]
+#[derive(Clone, Copy)]
 pub struct PlanAnswer {
     pub answer: FirstPlan,
     pub plan: [u8; 32],

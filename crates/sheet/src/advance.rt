@@ -11,7 +11,7 @@ use layout::value::Value;
 use model::command::{Command, Decoded, Read};
 
 // How far the sheet has come.
-#[derive(Drop)]
+#[derive(Clone, Copy)]
 pub struct Progress {
     // the value beside the board's buffers
     pub value: Value,

@@ -1,5 +1,5 @@
 // What the sheet answers.
-#[derive(Drop)]
+#[derive(Clone, Copy)]
 pub enum Sheet {
     // the length of what was written
     Written(usize),
