@@ -1,0 +1,11 @@
+-- Each entry loses the rule in its round.
+use Prim.Native.Nat.{◌-◌, ◌≤◌}
+use native.Mathlib.Omega.{arith}
+use Rattle.tables.specs.Sweep.{Swept}
+use Rattle.tables.specs.Laws.Sweep.{swept_none, swept_at}
+use Rattle.masks.specs.Laws.Rules.{Leaves, leaves_more, dropped}
+use borrow.Author.Rules.{rules}
+use Rattle.masks.proofs.rules.drop_rule.Goals as goal
+
+pub returns : goal.returns
+returns c = dropped (swept_at _ _ _ c.loop-c.invariant.1 (omega arith) (omega arith))

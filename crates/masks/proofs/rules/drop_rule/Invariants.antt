@@ -1,0 +1,14 @@
+-- Each entry loses the rule in its round.
+use Prim.Native.Nat.{◌-◌, ◌≤◌}
+use native.Mathlib.Omega.{arith}
+use Rattle.tables.specs.Sweep.{Swept}
+use Rattle.tables.specs.Laws.Sweep.{swept_none, swept_at}
+use Rattle.masks.specs.Laws.Rules.{Leaves, leaves_more, dropped}
+use borrow.Author.Rules.{rules}
+use Rattle.masks.proofs.rules.drop_rule.Given as goal
+
+abbrev pub invariant-loop-c : goal.invariant-loop-c
+invariant-loop-c l = (l.c ≤ 32) × Swept 0 (Leaves l.p) 0 l.c l.initial.on l.on
+
+abbrev pub decreases-loop-c : goal.decreases-loop-c
+decreases-loop-c l = 32 - l.c

@@ -1,0 +1,18 @@
+-- The rules on the calls that are not left are gathered; the lowest of those left is next.
+use Prim.Native.Nat.{◌-◌, ◌<◌}
+use native.Mathlib.Omega.{arith}
+use lib.Bits.{and_le_r}
+use lib.Count.{count_trailing_zeros}
+use Rattle.tables.specs.Laws.Left.{left_lowest}
+use Rattle.masks.specs.Laws.Rules.{Gathered, gathered_none, gathered_more, gathered_all}
+use borrow.Author.Rules.{rules}
+use Rattle.masks.proofs.rules.rules_on.Goals as goal
+
+pub loop-left-init : goal.loop-left-init
+loop-left-init c = gathered_none _ _ (omega arith)
+
+pub loop-left-preserved : goal.loop-left-preserved
+loop-left-preserved c = gathered_more c.loop-left-test.true c.loop-left.invariant
+
+pub returns : goal.returns
+returns c = gathered_all c.loop-left-test.false c.loop-left.invariant
