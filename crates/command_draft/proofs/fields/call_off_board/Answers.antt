@@ -1,0 +1,17 @@
+-- The loop has found no call off the board among those that it passed.
+use mathlib.Core.Path.{sym, ◌∙◌}
+use Prim.Native.Nat.{◌≤◌, ◌-◌}
+use native.Mathlib.Omega.{arith}
+use lib.ListN.{get_or}
+use Rattle.command_draft.specs.Fields.{off_board?}
+use Rattle.model.specs.Laws.Search.{NoneBelow, none_start, none_more, none_found, some_found}
+use Rattle.tables.specs.Laws.Facts.{any_default}
+use borrow.Author.Rules.{rules}
+use Rattle.command_draft.proofs.fields.call_off_board.Goals as goal
+
+pub returns-then-off_board : goal.returns-then-off_board
+returns-then-off_board c =
+    let start = c in
+    let l = c.loop-k in
+    let same = any_default 255 0 start.args.scope.now l.k (omega arith) in
+    some_found l.invariant.1 start.args.n (omega arith) (rw same (sym c.off_board.ensures ∙ c.if-off_board.true))
