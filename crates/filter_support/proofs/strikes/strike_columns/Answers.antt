@@ -18,5 +18,5 @@ pub loop-k-preserved : goal.loop-k-preserved
 loop-k-preserved c =
     let i = c.loop-k.invariant in
     let call = c.strike_call-d.ensures in
-    let struck = rw c.column-held.ensures at call.0 in
-    (omega arith, columns_more _ _ _ (omega arith) i.1 struck c.with_call-calls.ensures, still_more i.2 call.1)
+    let struck = rw c.column-held.ensures at call.slots_struck in
+    (omega arith, columns_more _ _ _ (omega arith) i.1 struck c.with_call-calls.ensures, still_more i.2 call.still_known)
