@@ -11,7 +11,5 @@ use Rattle.command_draft.proofs.fields.call_off_board.Goals as goal
 
 pub returns-then-off_board : goal.returns-then-off_board
 returns-then-off_board c =
-    let start = c in
-    let l = c.loop-k in
-    let same = any_default 255 0 start.args.scope.now l.k (omega arith) in
-    some_found l.invariant.1 start.args.n (omega arith) (rw same (sym c.off_board.ensures ∙ c.if-off_board.true))
+    let same = any_default 255 0 c.args.scope.now c.loop-k.k (omega arith) in
+    some_found c.loop-k.invariant.1 c.args.n (omega arith) (rw same (sym c.off_board.ensures ∙ c.if-off_board.true))

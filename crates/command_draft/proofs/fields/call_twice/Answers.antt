@@ -8,5 +8,4 @@ use Rattle.command_draft.proofs.fields.call_twice.Goals as goal
 
 pub returns-then-call_before : goal.returns-then-call_before
 returns-then-call_before c =
-    let l = c.loop-k in
-    some_found_by l.invariant.1 c.args.n (omega arith) c.call_before.ensures c.if-call_before.true
+    some_found_by c.loop-k.invariant.1 c.args.n (omega arith) c.call_before.ensures c.if-call_before.true

@@ -8,5 +8,4 @@ use Rattle.command_draft.proofs.fields.row_in_draft.Goals as goal
 
 pub returns-then-same_row : goal.returns-then-same_row
 returns-then-same_row c =
-    let l = c.loop-v in
-    some_found_by l.invariant.1 c.args.m (omega arith) c.same_row.ensures c.if-same_row.true
+    some_found_by c.loop-v.invariant.1 c.args.m (omega arith) c.same_row.ensures c.if-same_row.true

@@ -11,14 +11,10 @@ use Rattle.command_draft.proofs.fields.same_row.Goals as goal
 
 pub returns-then-rows-v : goal.returns-then-rows-v
 returns-then-rows-v c =
-    let start = c in
-    let l = c.loop-column in
-    let same = any_default 255 0 start.args.slots.now l.column (omega arith) in
-    other_found l.invariant.1 start.args.n (omega arith) (rw same (ne_eqb _ _ c.if-rows-v.true))
+    let same = any_default 255 0 c.args.slots.now c.loop-column.column (omega arith) in
+    other_found c.loop-column.invariant.1 c.args.n (omega arith) (rw same (ne_eqb _ _ c.if-rows-v.true))
 
 pub loop-column-preserved : goal.loop-column-preserved
 loop-column-preserved c =
-    let start = c in
-    let l = c.loop-column in
-    let same = any_default 255 0 start.args.slots.now l.column (omega arith) in
-    (omega arith, each_more l.invariant.1 (rw same (eq-eqb _ _ c.if-rows-v.false)))
+    let same = any_default 255 0 c.args.slots.now c.loop-column.column (omega arith) in
+    (omega arith, each_more c.loop-column.invariant.1 (rw same (eq-eqb _ _ c.if-rows-v.false)))

@@ -8,5 +8,4 @@ use Rattle.command_draft.proofs.fields.slot_off_call.Goals as goal
 
 pub returns-then-off_call : goal.returns-then-off_call
 returns-then-off_call c =
-    let l = c.loop-k in
-    some_found_by l.invariant.1 c.args.n (omega arith) c.off_call.ensures c.if-off_call.true
+    some_found_by c.loop-k.invariant.1 c.args.n (omega arith) c.off_call.ensures c.if-off_call.true
