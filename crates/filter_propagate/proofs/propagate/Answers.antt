@@ -5,5 +5,4 @@ use Rattle.filter_propagate.proofs.propagate.Goals as goal
 
 pub propagate_known-requires : goal.propagate_known-requires
 propagate_known-requires c =
-    let start = c.requires in
-    record { sizes = start.sizes; rules_on = start.rules_on; known = known_none _ _ _ refl refl }
+    record { sizes = c.requires.sizes; rules_on = c.requires.rules_on; known = known_none _ _ _ refl refl }

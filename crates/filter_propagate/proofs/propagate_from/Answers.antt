@@ -14,31 +14,18 @@ use Rattle.filter_propagate.proofs.propagate_from.Goals as goal
 
 pub revise-first-requires : goal.revise-first-requires
 revise-first-requires c =
-    let start = c.requires in
-    record { sizes = start.sizes; p_bound = start.p_bound; known = known_none _ _ _ refl refl }
+    record { sizes = c.requires.sizes; p_bound = c.requires.p_bound; known = known_none _ _ _ refl refl }
 
 pub returns-then-first-eq0 : goal.returns-then-first-eq0
 returns-then-first-eq0 c =
-    let first = c in
-    let v = first.revise-first.ensures.revision in
-    let d = v.revised.strikes.drop in
-    let z = c.if-first-eq0.true in
-    record { steps = more start (first_quiet _ _ _ _ _ _ first.requires.p_bound v z); idle = none_idle; drop = omega arith }
+    record { steps = more start (first_quiet _ _ _ _ _ _ c.requires.p_bound c.revise-first.ensures.revision c.if-first-eq0.true); idle = none_idle; drop = omega arith }
 
 pub overflow_add-result : goal.overflow_add-result
 overflow_add-result c =
-    let rest = c in
-    let first = rest in
-    let d = first.revise-first.ensures.revision.revised.strikes.drop in
-    let e = rest.propagate_known-rest.ensures.drop in
-    let a = first in
-    omega (arith, count_le is_open a.args.slots.now, a.requires.sizes.slots_size)
+    omega (arith, count_le is_open c.args.slots.now, c.requires.sizes.slots_size)
 
 pub returns : goal.returns
 returns c =
-    let rest = c in
-    let joined = rest in
-    let first = joined in
     propagated_before _
-    (first_enqueued _ _ _ _ _ _ first.requires.p_bound first.revise-first.ensures.revision joined.rules_on_calls-on.ensures joined.enqueue-pending.ensures)
-    rest.propagate_known-rest.ensures
+    (first_enqueued _ _ _ _ _ _ c.requires.p_bound c.revise-first.ensures.revision c.rules_on_calls-on.ensures c.enqueue-pending.ensures)
+    c.propagate_known-rest.ensures

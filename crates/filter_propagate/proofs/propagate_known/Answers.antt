@@ -24,26 +24,15 @@ loop-p-init c = (search rules, c.next_rule-p.ensures, start, omega arith, c.requ
 
 pub overflow_add-total : goal.overflow_add-total
 overflow_add-total c =
-    let step = c in
-    let at = step in
-    let i = at.loop-p.invariant.3 in
-    let d = step.step-done.ensures.stepped.revised.strikes.drop in
-    let a = at in
-    omega (arith, count_le is_open a.args.slots.now, a.requires.sizes.slots_size)
+    omega (arith, count_le is_open c.args.slots.now, c.requires.sizes.slots_size)
 
 pub loop-p-smaller : goal.loop-p-smaller
 loop-p-smaller c = step_less _ _ _ _ _ c.step-done.ensures.stepped (flags_length 64 _)
 
 pub loop-p-preserved : goal.loop-p-preserved
 loop-p-preserved c =
-    let step = c in
-    let s = step.step-done.ensures in
-    let d = s.stepped.revised.strikes.drop in
-    let i = step.loop-p.invariant in
-    (step_sizes _ s.stepped _ i.0, c.next_rule-p-in-loop-p.ensures, more i.2 s.stepped, omega (arith, i.3), s.known_2)
+    (step_sizes _ c.step-done.ensures.stepped _ c.loop-p.invariant.0, c.next_rule-p-in-loop-p.ensures, more c.loop-p.invariant.2 c.step-done.ensures.stepped, omega (arith, c.loop-p.invariant.3), c.step-done.ensures.known_2)
 
 pub returns : goal.returns
 returns c =
-    let i = c.loop-p.invariant in
-    let l = i.1.le in
-    record { steps = rw (i.1.absent (omega arith)) at i.2; idle = none_idle; drop = i.3 }
+    record { steps = rw (c.loop-p.invariant.1.absent (omega arith)) at c.loop-p.invariant.2; idle = none_idle; drop = c.loop-p.invariant.3 }

@@ -9,9 +9,4 @@ use Rattle.filter_propagate.proofs.revise.Goals as goal
 
 pub returns : goal.returns
 returns c =
-    let walk = c in
-    let known = walk.know_columns-all.ensures in
-    let n = walk.cap-n.ensures in
-    let m = walk.cap-m.ensures in
-    let done = c.strike_columns-done.ensures in
-    record { revision = revision_from _ _ _ _ _ _ _ _ n m (struck_sets known walk.column_sets-dead.ensures) walk.revise_columns-found.ensures done.columns_struck; known_2 = known_still known.masks done.still_known }
+    record { revision = revision_from _ _ _ _ _ _ _ _ c.cap-n.ensures c.cap-m.ensures (struck_sets c.know_columns-all.ensures c.column_sets-dead.ensures) c.revise_columns-found.ensures c.strike_columns-done.ensures.columns_struck; known_2 = known_still c.know_columns-all.ensures.masks c.strike_columns-done.ensures.still_known }

@@ -6,7 +6,4 @@ use Rattle.filter_propagate.proofs.step.Goals as goal
 
 pub returns : goal.returns
 returns c =
-    let after = c in
-    let known = after.requires.1 in
-    let lp = known.1.0 in
-    record { stepped = step_enqueued _ _ _ _ _ lp (flag_set 64 _ _ lp known.1.1.0) after.revise-done.ensures.revision refl known.0 c.enqueue.ensures; known_2 = after.revise-done.ensures.known_2 }
+    record { stepped = step_enqueued _ _ _ _ _ c.requires.p_bound (flag_set 64 _ _ c.requires.p_bound c.requires.has) c.revise-done.ensures.revision refl c.requires.rules_on c.enqueue.ensures; known_2 = c.revise-done.ensures.known_2 }
