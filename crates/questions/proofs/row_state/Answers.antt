@@ -8,22 +8,14 @@ use Rattle.questions.specs.Laws.Answers.{row_refused, row_given}
 use Rattle.questions.specs.Laws.Bounds.{row_bounds}
 use Rattle.questions.proofs.row_state.Goals as goal
 
-abbrev state : goal.Start → State
-state c = state_of c.args.value c.args.rows.now c.args.killers.now c.args.slots.now
-
 pub returns-then-refusal-ne0 : goal.returns-then-refusal-ne0
 returns-then-refusal-ne0 c =
-    let start = c in
-    row_refused (state start) start.args.rule start.args.row c.row_refusal-refusal.ensures c.if-refusal-ne0.true
+    row_refused (state_of c.args.value c.args.rows.now c.args.killers.now c.args.slots.now) c.args.rule c.args.row c.row_refusal-refusal.ensures c.if-refusal-ne0.true
 
 pub returns-then-byte : goal.returns-then-byte
 returns-then-byte c =
-    let asked = c in
-    let start = asked in
-    rw (eq-eqb _ _ c.if-byte.true) at (row_given (state start) start.args.rule start.args.row asked.row_refusal-refusal.ensures c.if-refusal-ne0.false refl)
+    rw (eq-eqb _ _ c.if-byte.true) at (row_given (state_of c.args.value c.args.rows.now c.args.killers.now c.args.slots.now) c.args.rule c.args.row c.row_refusal-refusal.ensures c.if-refusal-ne0.false refl)
 
 pub returns-else-byte : goal.returns-else-byte
 returns-else-byte c =
-    let asked = c in
-    let start = asked in
-    rw (ne_eqb _ _ c.if-byte.false) at (row_given (state start) start.args.rule start.args.row asked.row_refusal-refusal.ensures c.if-refusal-ne0.false refl)
+    rw (ne_eqb _ _ c.if-byte.false) at (row_given (state_of c.args.value c.args.rows.now c.args.killers.now c.args.slots.now) c.args.rule c.args.row c.row_refusal-refusal.ensures c.if-refusal-ne0.false refl)

@@ -5,12 +5,7 @@ use Rattle.layout.specs.Memory.{State, state_of}
 use Rattle.questions.specs.Laws.Answers.{state_refused, state_given}
 use Rattle.questions.proofs.slot_state.Goals as goal
 
-abbrev state : goal.Start → State
-state c = state_of c.args.value c.args.rows.now c.args.killers.now c.args.slots.now
-
 pub returns-else-byte-2 : goal.returns-else-byte-2
 returns-else-byte-2 c =
-    let asked = c in
-    let start = asked in
     rw (ne_eqb _ _ c.if-byte.false, ne_eqb _ _ c.if-byte-2.false) at
-    (state_given (state start) start.args.call start.args.slot asked.slot_refusal-refusal.ensures c.if-refusal-ne0.false c.byte_at-byte.ensures)
+    (state_given (state_of c.args.value c.args.rows.now c.args.killers.now c.args.slots.now) c.args.call c.args.slot c.slot_refusal-refusal.ensures c.if-refusal-ne0.false c.byte_at-byte.ensures)

@@ -6,29 +6,16 @@ use Rattle.questions.specs.Laws.Answers.{support_refused, support_given, support
 use Rattle.questions.specs.Laws.Bounds.{support_bounds}
 use Rattle.questions.proofs.support.Goals as goal
 
-abbrev state : goal.Start → State
-state c = state_of c.args.value c.args.rows.now c.args.killers.now c.args.slots.now
-
 pub returns-then-refusal-ne0 : goal.returns-then-refusal-ne0
 returns-then-refusal-ne0 c =
-    let start = c in
-    support_refused (state start) start.args.rule start.args.column start.args.slot c.support_refusal-refusal.ensures c.if-refusal-ne0.true
+    support_refused (state_of c.args.value c.args.rows.now c.args.killers.now c.args.slots.now) c.args.rule c.args.column c.args.slot c.support_refusal-refusal.ensures c.if-refusal-ne0.true
 
 pub returns-then-is_cancelled : goal.returns-then-is_cancelled
 returns-then-is_cancelled c =
-    let call = c in
-    let clear = call in
-    let asked = clear in
-    let start = asked in
-    support_cancelled (state start) start.args.rule start.args.column start.args.slot asked.support_refusal-refusal.ensures clear.if-refusal-ne0.false
-    (rw (c.is_cancelled.ensures, call.byte_at.ensures) at c.if-is_cancelled.true)
+    support_cancelled (state_of c.args.value c.args.rows.now c.args.killers.now c.args.slots.now) c.args.rule c.args.column c.args.slot c.support_refusal-refusal.ensures c.if-refusal-ne0.false
+    (rw (c.is_cancelled.ensures, c.byte_at.ensures) at c.if-is_cancelled.true)
 
 pub returns : goal.returns
 returns c =
-    let active = c in
-    let call = active in
-    let clear = call in
-    let asked = clear in
-    let start = asked in
-    support_given (state start) start.args.rule start.args.column start.args.slot asked.support_refusal-refusal.ensures clear.if-refusal-ne0.false
-    (rw (active.is_cancelled.ensures, call.byte_at.ensures) at active.if-is_cancelled.false) c.lowest_support.ensures
+    support_given (state_of c.args.value c.args.rows.now c.args.killers.now c.args.slots.now) c.args.rule c.args.column c.args.slot c.support_refusal-refusal.ensures c.if-refusal-ne0.false
+    (rw (c.is_cancelled.ensures, c.byte_at.ensures) at c.if-is_cancelled.false) c.lowest_support.ensures

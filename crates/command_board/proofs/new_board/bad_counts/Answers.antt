@@ -8,10 +8,8 @@ use Rattle.command_board.proofs.new_board.bad_counts.Goals as goal
 
 pub returns-then-bad_count : goal.returns-then-bad_count
 returns-then-bad_count c =
-    let l = c.loop-j in
-    sym (bad_found _ l.j l.ended l.invariant.1 (omega arith) (sym c.bad_count.ensures ∙ c.if-bad_count.true))
+    sym (bad_found _ c.loop-j.j c.loop-j.ended c.loop-j.invariant.1 (omega arith) (sym c.bad_count.ensures ∙ c.if-bad_count.true))
 
 pub returns : goal.returns
 returns c =
-    let l = c.loop-j in
-    sym (good_all _ l.j l.ended l.invariant.1 (omega arith))
+    sym (good_all _ c.loop-j.j c.loop-j.ended c.loop-j.invariant.1 (omega arith))

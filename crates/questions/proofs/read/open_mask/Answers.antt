@@ -8,4 +8,5 @@ use Rattle.questions.specs.Laws.Mask.{summed_none, summed_more, summed_fits, sum
 use Rattle.questions.proofs.read.open_mask.Goals as goal
 
 pub overflow_add-mask : goal.overflow_add-mask
-overflow_add-mask c = omega (arith, summed_fits (loop-again c))
+overflow_add-mask c =
+    omega (arith, summed_fits (summed_more {w = c.if_open-mask.result} c.loop-s.invariant (omega arith) c.slot_weights-weights.ensures (rw (← c.byte_at.ensures) c.if_open-mask.ensures)))

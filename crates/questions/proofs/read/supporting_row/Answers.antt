@@ -18,7 +18,5 @@ tests rows killers rule column slot = supports? (state_of_parts [] [] [] [] rows
 
 pub returns-then-supports : goal.returns-then-supports
 returns-then-supports c =
-    let head = c in
-    let a = head.args in
-    let f = tests a.rows.now a.killers.now a.rule a.column a.slot in
-    sym (first_found a.m f head.loop-w.w c.loop-w-test.true (→T (f head.loop-w.w) (rw c.supports.ensures at c.if-supports.true)) head.loop-w.invariant.1)
+    let f = tests c.args.rows.now c.args.killers.now c.args.rule c.args.column c.args.slot in
+    sym (first_found c.args.m f c.loop-w.w c.loop-w-test.true (→T (f c.loop-w.w) (rw c.supports.ensures at c.if-supports.true)) c.loop-w.invariant.1)
