@@ -91,7 +91,7 @@ pub fn row_bytes<'a>(
     rule: u8,
     row: u8,
 ) -> &'a [u8]
-    ensures { RowPart value rows.now killers.now slots.now rule row result }
+    ensures { RowPart value rows.entry killers.now slots.now rule row result }
 {
     let counts = value.heads.counts;
     let arity = value.heads.arity;

@@ -7,10 +7,5 @@ use Rattle.sheet_lines.proofs.accepted_line.Goals as goal
 
 pub returns : goal.returns
 returns c =
-    let b = c in
-    let z = b in
-    let y = z in
-    let x = y in
-    let a = x.args in
-    append_same (accepted_parts_lem a.kind a.struck a.reopened).same
-    (append_more x.write_start-a.ensures (append_more y.write_spaced-b.ensures (append_more z.write_spaced-c.ensures b.write_byte.ensures)))
+    append_same (accepted_parts_lem c.args.kind c.args.struck c.args.reopened).same
+    (append_more c.write_start-a.ensures (append_more c.write_spaced-b.ensures (append_more c.write_spaced-c.ensures c.write_byte.ensures)))

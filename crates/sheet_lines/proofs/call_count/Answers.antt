@@ -10,10 +10,8 @@ use Rattle.sheet_lines.proofs.call_count.Goals as goal
 
 pub returns-then-counts-n-eq0 : goal.returns-then-counts-n-eq0
 returns-then-counts-n-eq0 c =
-    let loop = c in
-    first_zero loop.args.counts.now loop.loop-n.n loop.loop-n.invariant.1 c.if-counts-n-eq0.true
+    first_zero c.args.counts.now c.loop-n.n c.loop-n.invariant.1 c.if-counts-n-eq0.true
 
 pub returns : goal.returns
 returns c =
-    let counts = c.args.counts.now in
-    first_zero counts 32 (λ j lt. c.loop-n.invariant.1 j (omega arith)) (get_or-eq_default counts 0 (omega arith))
+    first_zero c.args.counts.now 32 (λ j lt. c.loop-n.invariant.1 j (omega arith)) (get_or-eq_default c.args.counts.now 0 (omega arith))

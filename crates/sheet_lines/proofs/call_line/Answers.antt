@@ -5,17 +5,20 @@ use Rattle.sheet_lines.specs.Laws.Append.{append_more, append_same, room_parts, 
 use Rattle.sheet_lines.specs.Laws.Calls.{slot_parts}
 use Rattle.sheet_lines.proofs.call_line.Goals as goal
 
+pub write_start-numbered-requires : goal.write_start-numbered-requires
+write_start-numbered-requires c =
+    record { room = room_first (room_parts (slot_parts c.args.slots.now c.args.c) c.requires.room); n_lt_decimal_end = omega arith }
+
+pub call_slots-listed-requires : goal.call_slots-listed-requires
+call_slots-listed-requires c =
+    let room = room_parts (slot_parts c.args.slots.now c.args.c) c.requires.room in
+    record { room = room_first (room_rest room c.write_start-numbered.ensures); slots_len = search rules; c_bound = search rules }
+
 pub write_byte-requires : goal.write_byte-requires
 write_byte-requires c =
-    let y = c in
-    let x = y in
-    let s = x in
-    let room = room_parts (slot_parts s.args.slots.now s.args.c) s.requires.room in
-    room_first (room_rest (room_rest room x.write_start-numbered.ensures) y.call_slots-listed.ensures)
+    let room = room_parts (slot_parts c.args.slots.now c.args.c) c.requires.room in
+    room_first (room_rest (room_rest room c.write_start-numbered.ensures) c.call_slots-listed.ensures)
 
 pub returns : goal.returns
 returns c =
-    let b = c in
-    let y = b in
-    let x = y in
-    append_same (slot_parts _ _).same (append_more x.write_start-numbered.ensures (append_more y.call_slots-listed.ensures b.write_byte.ensures))
+    append_same (slot_parts _ _).same (append_more c.write_start-numbered.ensures (append_more c.call_slots-listed.ensures c.write_byte.ensures))

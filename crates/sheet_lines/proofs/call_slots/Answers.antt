@@ -7,20 +7,16 @@ use Rattle.sheet_lines.proofs.call_slots.Goals as goal
 
 pub write_bytes-requires : goal.write_bytes-requires
 write_bytes-requires c =
-    let off = c in
-    let s = off in
-    room_same (dash s.args.slots.now s.args.c off.if-slots-c.true) s.requires.room
+    room_same (dash c.args.slots.now c.args.c c.if-slots-c.true) c.requires.room
+
+pub open_slots-requires : goal.open_slots-requires
+open_slots-requires c =
+    record { room = room_same (no_dash c.args.slots.now c.args.c c.if-slots-c.false) c.requires.room; slots_len = search rules; c_bound = search rules }
 
 pub returns-then-slots-c : goal.returns-then-slots-c
 returns-then-slots-c c =
-    let x = c in
-    let off = x in
-    let s = off in
-    append_same (sym (dash s.args.slots.now s.args.c off.if-slots-c.true)) x.write_bytes.ensures
+    append_same (sym (dash c.args.slots.now c.args.c c.if-slots-c.true)) c.write_bytes.ensures
 
 pub returns-else-slots-c : goal.returns-else-slots-c
 returns-else-slots-c c =
-    let x = c in
-    let on = x in
-    let s = on in
-    append_same (sym (no_dash s.args.slots.now s.args.c on.if-slots-c.false)) x.open_slots.ensures
+    append_same (sym (no_dash c.args.slots.now c.args.c c.if-slots-c.false)) c.open_slots.ensures

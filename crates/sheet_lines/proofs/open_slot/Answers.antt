@@ -6,13 +6,14 @@ use Rattle.sheet_lines.specs.Laws.Append.{append_none, append_same, room_same}
 use Rattle.sheet_lines.specs.Laws.Calls.{open_number_lem, no_number}
 use Rattle.sheet_lines.proofs.open_slot.Goals as goal
 
+pub write_spaced-requires : goal.write_spaced-requires
+write_spaced-requires c =
+    record { room = room_same (open_number_lem c.args.slots.now c.args.c c.args.s c.if-slots-c.true) c.requires.room; n_lt_decimal_end = omega arith }
+
 pub returns-then-slots-c : goal.returns-then-slots-c
 returns-then-slots-c c =
-    let x = c in
-    let s = x in
-    append_same (sym (open_number_lem s.args.slots.now s.args.c s.args.s x.if-slots-c.true)) x.write_spaced.ensures
+    append_same (sym (open_number_lem c.args.slots.now c.args.c c.args.s c.if-slots-c.true)) c.write_spaced.ensures
 
 pub returns-else-slots-c : goal.returns-else-slots-c
 returns-else-slots-c c =
-    let s = c in
-    append_same (sym (no_number s.args.slots.now s.args.c s.args.s c.if-slots-c.false)) (append_none _ _)
+    append_same (sym (no_number c.args.slots.now c.args.c c.args.s c.if-slots-c.false)) (append_none _ _)

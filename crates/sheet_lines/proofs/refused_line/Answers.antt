@@ -7,9 +7,5 @@ use Rattle.sheet_lines.proofs.refused_line.Goals as goal
 
 pub returns : goal.returns
 returns c =
-    let b = c in
-    let y = b in
-    let x = y in
-    let a = x.args in
-    append_same (line_parts_lem 114 a.kind (a.number ∷ [])).same
-    (append_more x.write_start-a.ensures (append_more y.write_spaced-b.ensures b.write_byte.ensures))
+    append_same (line_parts_lem 114 c.args.kind (c.args.number ∷ [])).same
+    (append_more c.write_start-a.ensures (append_more c.write_spaced-b.ensures c.write_byte.ensures))

@@ -17,17 +17,12 @@ loop-i-init c = (omega arith, joined_none _ _ _)
 
 pub write_byte-next-requires : goal.write_byte-next-requires
 write_byte-next-requires c =
-    let loop = c in
-    let start = loop in
-    let text = start.args.text.now in
-    joined_room (λ k. get_or text k 0 ∷ []) {n = length text} (omega arith) (room_same (sym (joined_bytes text (length text) (omega arith) ∙ take-length text)) start.requires) loop.loop-i.invariant.1
+    joined_room (λ k. get_or c.args.text.now k 0 ∷ []) {n = length c.args.text.now} (omega arith) (room_same (sym (joined_bytes c.args.text.now (length c.args.text.now) (omega arith) ∙ take-length c.args.text.now)) c.requires) c.loop-i.invariant.1
 
 pub loop-i-preserved : goal.loop-i-preserved
 loop-i-preserved c =
-    let call = c in
-    (omega arith, joined_more _ call.loop-i.invariant.1 call.write_byte-next.ensures)
+    (omega arith, joined_more _ c.loop-i.invariant.1 c.write_byte-next.ensures)
 
 pub returns : goal.returns
 returns c =
-    let text = c.args.text.now in
-    append_same (joined_bytes text (length text) (omega arith) ∙ take-length text) (joined_at _ c.loop-i.invariant.1 (omega arith) (omega arith))
+    append_same (joined_bytes c.args.text.now (length c.args.text.now) (omega arith) ∙ take-length c.args.text.now) (joined_at _ c.loop-i.invariant.1 (omega arith) (omega arith))

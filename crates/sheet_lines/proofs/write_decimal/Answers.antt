@@ -7,9 +7,5 @@ use Rattle.sheet_lines.proofs.write_decimal.Goals as goal
 
 pub returns : goal.returns
 returns c =
-    let b = c in
-    let z = b in
-    let y = z in
-    let x = y in
-    append_same (decimal_parts_lem _ x.requires.n_lt_decimal_end).same
-    (append_more x.write_digit-a.ensures (append_more y.write_digit-b.ensures (append_more z.write_digit-c.ensures b.write_byte.ensures)))
+    append_same (decimal_parts_lem _ c.requires.n_lt_decimal_end).same
+    (append_more c.write_digit-a.ensures (append_more c.write_digit-b.ensures (append_more c.write_digit-c.ensures c.write_byte.ensures)))

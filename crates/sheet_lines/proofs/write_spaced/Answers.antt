@@ -9,6 +9,4 @@ use Rattle.sheet_lines.proofs.write_spaced.Goals as goal
 
 pub returns : goal.returns
 returns c =
-    let y = c in
-    let x = y in
-    append_more x.write_byte-a.ensures (append_same (sym (append-nil (decimal x.args.n))) y.write_decimal.ensures)
+    append_more c.write_byte-a.ensures (append_same (sym (append-nil (decimal c.args.n))) c.write_decimal.ensures)

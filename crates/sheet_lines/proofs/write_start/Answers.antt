@@ -5,6 +5,4 @@ use Rattle.sheet_lines.proofs.write_start.Goals as goal
 
 pub returns : goal.returns
 returns c =
-    let y = c in
-    let x = y in
-    append_more x.write_byte-a.ensures y.write_spaced.ensures
+    append_more c.write_byte-a.ensures c.write_spaced.ensures
