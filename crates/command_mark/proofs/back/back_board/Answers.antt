@@ -9,7 +9,7 @@ returns-then-n-ne0 c =
     let tested = c in
     let a = tested.args in
     rw c.refused.ensures
-    (back_refused a.name (marked_memory a.value a.names a.rows a.killers a.slots a.marks) _ tested.if-n-ne0.true tested.check_back-n.ensures)
+    (back_refused a.name (marked_memory a.value a.names.now a.rows.now a.killers.now a.slots.now a.marks.now) _ tested.if-n-ne0.true tested.check_back-n.ensures)
 
 pub returns : goal.returns
 returns c =
@@ -17,5 +17,5 @@ returns c =
     let tested = back in
     let checked = tested.check_back-n.ensures in
     let a = tested.args in
-    back_accepted a.name (marked_memory a.value a.names a.rows a.killers a.slots a.marks) _ _ _ tested.if-n-ne0.false checked
+    back_accepted a.name (marked_memory a.value a.names.now a.rows.now a.killers.now a.slots.now a.marks.now) _ _ _ tested.if-n-ne0.false checked
     (back_known a.value.heads.counts a.names.now a.name _ tested.if-n-ne0.false checked) back.back_unchecked.ensures

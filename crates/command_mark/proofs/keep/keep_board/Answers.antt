@@ -9,7 +9,7 @@ returns-then-n-ne0 c =
     let tested = c in
     let a = tested.args in
     rw c.refused.ensures
-    (keep_refused a.name (marked_memory a.value a.names a.rows a.killers a.slots a.marks) _ tested.if-n-ne0.true tested.check_keep-n.ensures)
+    (keep_refused a.name (marked_memory a.value a.names.now a.rows.now a.killers.now a.slots.now a.marks.now) _ tested.if-n-ne0.true tested.check_keep-n.ensures)
 
 pub returns : goal.returns
 returns c =
@@ -17,5 +17,5 @@ returns c =
     let tested = kept in
     let checked = tested.check_keep-n.ensures in
     let a = tested.args in
-    keep_accepted a.name (marked_memory a.value a.names a.rows a.killers a.slots a.marks) _ _ _ tested.if-n-ne0.false checked
+    keep_accepted a.name (marked_memory a.value a.names.now a.rows.now a.killers.now a.slots.now a.marks.now) _ _ _ tested.if-n-ne0.false checked
     (name_known a.value.heads.counts a.name _ tested.if-n-ne0.false checked) kept.keep_unchecked.ensures
