@@ -2,7 +2,7 @@
 use mathlib.Core.Path.{refl}
 use native.Mathlib.Omega.{arith}
 use borrow.Author.Rules.{rules}
-use Rattle.command_gap.specs.Laws.Pairs.{listed_more, listed_passed_over, listed_few}
+use Rattle.command_gap.proofs.Laws.Pairs.{listed_more, listed_passed_over, listed_few}
 use Rattle.command_gap.proofs.pairs.list_pair.Goals as goal
 
 pub overflow_add-result : goal.overflow_add-result

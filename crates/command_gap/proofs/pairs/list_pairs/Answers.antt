@@ -4,7 +4,7 @@ use native.Mathlib.Omega.{arith}
 use borrow.Author.Rules.{rules}
 use Rattle.model.specs.Gaps.{pair_test}
 use Rattle.command_gap.specs.Pairs.{ListedTo}
-use Rattle.command_gap.specs.Laws.Pairs.{listed_none, listed_all}
+use Rattle.command_gap.proofs.Laws.Pairs.{listed_none, listed_all}
 use Rattle.command_gap.proofs.pairs.list_pairs.Goals as goal
 
 pub loop-i-init : goal.loop-i-init

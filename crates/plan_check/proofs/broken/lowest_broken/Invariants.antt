@@ -4,7 +4,7 @@ use mathlib.Core.List.{[]}
 use Prim.Native.Nat.{◌-◌, ◌≤◌}
 use native.Mathlib.Omega.{arith}
 use Rattle.layout.specs.Memory.{state_of_parts}
-use Rattle.model.specs.Laws.Search.{NoneBelow, none_start, none_more}
+use Rattle.model.proofs.Laws.Search.{NoneBelow, none_start, none_more}
 use Rattle.plan_model.specs.Plans.{rules_in, breaks?}
 use Rattle.plan_check.specs.Laws.Answers.{lowest_found, lowest_none}
 use borrow.Author.Rules.{rules}

@@ -4,7 +4,7 @@ use Prim.Native.Nat.{◌+◌, ◌-◌, ◌*◌, ◌≤◌}
 use native.Mathlib.Omega.{arith}
 use lib.ListN.{get_or}
 use lib.Dec.{eqb}
-use Rattle.model.specs.Laws.Search.{none_start}
+use Rattle.model.proofs.Laws.Search.{none_start}
 use Rattle.plan_fit.specs.Words.{SomeBetween}
 use Rattle.plan_fit.specs.Laws.Rows.{between_start, between_more, part_last}
 use borrow.Author.Rules.{rules}
