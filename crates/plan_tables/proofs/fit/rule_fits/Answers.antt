@@ -4,4 +4,4 @@ use borrow.Author.Rules.{rules}
 use Rattle.plan_tables.proofs.fit.rule_fits.Goals as goal
 
 pub returns : goal.returns
-returns c = fitted_by_lem _ _ _ _ _ (rw (← c.columns_at_lem.ensures) c.plan_word-wanted.ensures) c.Has-word.ensures
+returns c = fitted_by_lem _ _ _ _ _ (rw (← c.columns_at.ensures) c.plan_word-wanted.ensures) c.has_word.ensures

@@ -14,7 +14,7 @@ use Rattle.plan_fit.proofs.calls.slots_for.Reads as slots-for-reads
 use Rattle.plan_tables.proofs.lookup.call_slots.Given as goal
 
 abbrev pub invariant-loop-c : goal.invariant-loop-c
-invariant-loop-c l = (l.c ≤ 32) × Entries (λ l.c v. v ≡ slots_on_in (state_of_parts l.counts [] [] [] [] [] l.slots) l.c) 32 l.c l.calls
+invariant-loop-c l = (l.c ≤ 32) × Entries (λ cₙ v. v ≡ slots_on_in (state_of_parts l.counts [] [] [] [] [] l.slots) cₙ) 32 l.c l.calls
 
 abbrev pub decreases-loop-c : goal.decreases-loop-c
 decreases-loop-c l = 32 - l.c

@@ -13,7 +13,7 @@ use Rattle.masks.proofs.slots.slots_with.Reads as slots-with-reads
 use Rattle.plan_tables.proofs.lookup.open_masks.Given as goal
 
 abbrev pub invariant-loop-c : goal.invariant-loop-c
-invariant-loop-c l = (l.c ≤ 32) × Entries (λ l.c m. IsMask (λ s. cause_of l.slots l.c s ≡ 255) 32 m) 32 l.c l.opened
+invariant-loop-c l = (l.c ≤ 32) × Entries (λ cₙ m. IsMask (λ s. cause_of l.slots cₙ s ≡ 255) 32 m) 32 l.c l.opened
 
 abbrev pub decreases-loop-c : goal.decreases-loop-c
 decreases-loop-c l = 32 - l.c

@@ -9,4 +9,4 @@ use Rattle.plan_tables.proofs.lookup.row_words.Goals as goal
 
 pub loop-p-preserved : goal.loop-p-preserved
 loop-p-preserved c =
-    (omega arith, all_more _ _ _ c.loop-p.invariant.1 c.cap-held.ensures (rw (← c.columns_at_lem.ensures) c.column_mask-mask.ensures) c.rule_words.ensures)
+    (omega arith, all_more _ _ _ c.loop-p.invariant.1 c.cap-held.ensures (rw (← c.columns_at.ensures) c.column_mask-mask.ensures) c.rule_words.ensures)

@@ -12,7 +12,7 @@ use Rattle.plan_fit.proofs.columns.column_call.Reads as column-call-reads
 use Rattle.plan_tables.proofs.lookup.rule_columns.Given as goal
 
 abbrev pub invariant-loop-i : goal.invariant-loop-i
-invariant-loop-i l = (l.i ≤ 256) × Entries (λ l.i v. v ≡ column_call l.arity l.scope l.slots (l.i / 4) (l.i % 4)) 256 l.i l.columns
+invariant-loop-i l = (l.i ≤ 256) × Entries (λ iₙ v. v ≡ column_call l.arity l.scope l.slots (iₙ / 4) (iₙ % 4)) 256 l.i l.columns
 
 abbrev pub decreases-loop-i : goal.decreases-loop-i
 decreases-loop-i l = 256 - l.i
