@@ -1,6 +1,6 @@
 -- WHAT THE BYTES SAY OF CANCELLED CALLS: on a stored board a call is cancelled exactly where the byte of its first slot says so, and then the bytes of all its slots do.
 -- And a rule all of whose calls are cancelled binds nothing. Assumes nothing.
-use Rattle.std.specs.Prelude.{◌≡◌, refl, List, ◌↔◌, ◌≢◌, ◌⊎◌, ℕ, ◌<◌, ◌≤◌, length, get_or, T, eqb, ltb}
+use Rattle.std.specs.Prelude.{◌≡◌, refl, List, ◌↔◌, ◌≢◌, ℕ, ◌<◌, ◌≤◌, length, get_or, T, eqb, ltb}
 use Rattle.std.proofs.Common.{◌∙◌, ⊎_elim, arith, eqb→eq, ltb→lt, lt→ltb, lt-ltb, le-ltb}
 use Rattle.std.proofs.Math.Option.{none}
 use Rattle.std.proofs.Math.ListN.{get_or-eq_default}

@@ -5,7 +5,7 @@ use Rattle.std.proofs.Common.{ap, ◌∙◌, inl, inr, arith, add-zero, add-suc,
 use Rattle.std.proofs.Math.Option.{Option, none, some}
 use Rattle.std.proofs.Math.Dec.{not_T}
 use Rattle.model.specs.Board.{Rule, Board, call_at, slot_at, cancelled_on?, slots_on, InForce, active?, Active, InScope, Holds, Within, Supported, SelfSupporting, Passing, Viable, ViableInAny}
-use Rattle.model.specs.Tests.{up_from, has, keep_only}
+use Rattle.model.specs.Tests.{up_from, keep_only}
 use Rattle.model.specs.Filter.{in?, in_scope?, holds?, within?, supported?, admits?, all?, kept?, pass_from, pass, passes, slots_from, all_slots, size, open_of}
 use Rattle.model.proofs.Laws.Tests.{and→, →and, or→, →or, T?, some→, →some, every→, →every, →eqb, keep→, →keep, has_up_from, up_from_has}
 use Rattle.model.proofs.Laws.Theory.{active_below, numbered}
