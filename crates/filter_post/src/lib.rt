@@ -23,7 +23,7 @@ pub fn post(
     rule: RuleData,
 ) -> usize
     requires sizes { Sizes rows.old killers.old slots.old }
-    requires writable { Writable p (rules_in rows arity scope lengths) }
+    requires writable { Writable p (rules_in rows.old arity.old scope.old lengths.old) }
     ensures { PostDone
         p result rule
         (rules_in rows.old arity.old scope.old lengths.old)

@@ -42,7 +42,7 @@ pub fn write_rule(
     p: usize,
     rule: RuleData,
 )
-    requires { Writable p (rules_in rows arity scope lengths) }
+    requires { Writable p (rules_in rows.old arity.old scope.old lengths.old) }
     ensures { RuleWritten
         p rule
         (rules_in rows.old arity.old scope.old lengths.old)

@@ -47,7 +47,7 @@ pub fn clear_rule(
     p: usize,
 )
     requires killers_len { length killers.old ≡ killers_length }
-    requires writable { Writable p (rules_in rows arity scope lengths) }
+    requires writable { Writable p (rules_in rows.old arity.old scope.old lengths.old) }
     ensures { RuleCleared
         p (rules_in rows.old arity.old scope.old lengths.old)
         (rules_in rows.new arity.new scope.new lengths.new) killers.old
@@ -70,7 +70,7 @@ pub fn strike_again(
     p: usize,
 ) -> usize
     requires sizes { Sizes rows.old killers.old slots.old }
-    requires writable { Writable p (rules_in rows arity scope lengths) }
+    requires writable { Writable p (rules_in rows.old arity.old scope.old lengths.old) }
     requires rules_on { RulesOn arity.old scope.old on.old }
     ensures { StruckAgain
         p result (flags_of 64 pending) (rules_in rows.old arity.old scope.old lengths.old)
@@ -97,8 +97,8 @@ pub fn retract_struck(
     p: usize,
 ) -> Retraction
     requires sizes { Sizes rows.old killers.old slots.old }
-    requires writable { Writable p (rules_in rows arity scope lengths) }
-    requires seeding { Seeding (CausedBy p (rules_in rows arity scope lengths) slots.old) visited.old calls }
+    requires writable { Writable p (rules_in rows.old arity.old scope.old lengths.old) }
+    requires seeding { Seeding (CausedBy p (rules_in rows.old arity.old scope.old lengths.old) slots.old) visited.old calls }
     ensures { Reworked
         p (rules_in rows.old arity.old scope.old lengths.old)
         (rules_in rows.new arity.new scope.new lengths.new) killers.old
@@ -136,7 +136,7 @@ pub fn retract(
     p: usize,
 ) -> Retraction
     requires sizes { Sizes rows.old killers.old slots.old }
-    requires writable { Writable p (rules_in rows arity scope lengths) }
+    requires writable { Writable p (rules_in rows.old arity.old scope.old lengths.old) }
     ensures { RetractDone
         p (rules_in rows.old arity.old scope.old lengths.old)
         (rules_in rows.new arity.new scope.new lengths.new) killers.old

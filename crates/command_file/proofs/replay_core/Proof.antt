@@ -4,7 +4,7 @@ use lib.ListN.{length}
 use borrow.Author.Tests.{lt-ltb, le-ltb}
 use borrow.Author.Rules.{rules}
 use Rattle.layout.specs.Sizes.{Lent}
-use Rattle.model.specs.Laws.Shapes.{lent_sizes, marks_size}
+use Rattle.model.proofs.Laws.Shapes.{lent_sizes, marks_size}
 use Rattle.command_file.specs.Laws.Replay.{replay_lengths, replay_table, replay_long, replay_file}
 use Rattle.command_file.proofs.replay_core.Statement.{statement}
 use Rattle.command_file.proofs.replay_core.Tie as tie

@@ -1,7 +1,7 @@
 -- Each arm hands on what the function of its kind promises.
 use native.Mathlib.Omega.{arith}
 use borrow.Author.Rules.{rules}
-use Rattle.command_obey.specs.Laws.Obeys.{other_obeys, board_obeys, mark_obeys}
+use Rattle.command_obey.proofs.Laws.Obeys.{other_obeys, board_obeys, mark_obeys}
 use Rattle.command_obey.proofs.obey.Statement.{statement}
 use Rattle.command_obey.proofs.obey.Tie as tie
 

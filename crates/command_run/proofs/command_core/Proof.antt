@@ -2,7 +2,7 @@
 use mathlib.Core.Path.{refl, sym, ◌∙◌}
 use native.Mathlib.Omega.{arith}
 use lib.ListN.{length}
-use Rattle.model.specs.Laws.Shapes.{lent_sizes, marks_size}
+use Rattle.model.proofs.Laws.Shapes.{lent_sizes, marks_size}
 use Rattle.layout.specs.Sizes.{Lent}
 use Rattle.command_run.specs.Laws.Store.{stores_lengths, stores_table, stores_done}
 use borrow.Author.Rules.{rules}

@@ -2,10 +2,10 @@
 use mathlib.Core.Path.{refl}
 use borrow.Author.Rules.{rules}
 use Rattle.model.specs.Ledger.{lengths}
-use Rattle.model.specs.Laws.Entry.{refused_end, refused_read, refused_left_over}
+use Rattle.model.proofs.Laws.Entry.{refused_end, refused_read, refused_left_over}
 use Rattle.command_run.proofs.obey_read.Statement.{statement}
 use Rattle.command_run.proofs.obey_read.Tie as tie
-use Rattle.command_obey.specs.Laws.Obeys.{obeys_promise}
+use Rattle.command_obey.proofs.Laws.Obeys.{obeys_promise}
 
 enum-known-read : tie.Need-enum-known-read
 enum-known-read c = search rules

@@ -4,8 +4,8 @@ use native.Mathlib.Omega.{arith}
 use borrow.Author.Rules.{rules}
 use borrow.Author.Tests.{eq-eqb, ne_eqb}
 use Rattle.layout.specs.Memory.{State, state_of}
-use Rattle.questions.specs.Laws.Answers.{row_refused, row_given}
-use Rattle.questions.specs.Laws.Bounds.{row_bounds}
+use Rattle.questions.proofs.Laws.Answers.{row_refused, row_given}
+use Rattle.questions.proofs.Laws.Bounds.{row_bounds}
 use Rattle.questions.proofs.row_state.Goals as goal
 
 pub returns-then-refusal-ne0 : goal.returns-then-refusal-ne0

@@ -2,7 +2,7 @@
 use borrow.Author.Rules.{rules}
 use borrow.Author.Tests.{eq-eqb, ne_eqb}
 use Rattle.layout.specs.Memory.{State, state_of}
-use Rattle.questions.specs.Laws.Answers.{state_refused, state_given}
+use Rattle.questions.proofs.Laws.Answers.{state_refused, state_given}
 use Rattle.questions.proofs.slot_state.Goals as goal
 
 pub returns-else-byte-2 : goal.returns-else-byte-2

@@ -2,8 +2,8 @@
 -- every row of the rule.
 use borrow.Author.Rules.{rules}
 use Rattle.layout.specs.Memory.{State, state_of}
-use Rattle.questions.specs.Laws.Answers.{support_refused, support_given, support_cancelled}
-use Rattle.questions.specs.Laws.Bounds.{support_bounds}
+use Rattle.questions.proofs.Laws.Answers.{support_refused, support_given, support_cancelled}
+use Rattle.questions.proofs.Laws.Bounds.{support_bounds}
 use Rattle.questions.proofs.support.Goals as goal
 
 pub returns-then-refusal-ne0 : goal.returns-then-refusal-ne0

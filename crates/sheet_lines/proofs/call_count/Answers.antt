@@ -5,7 +5,7 @@ use native.Mathlib.Omega.{arith}
 use lib.ListN.{get_or, get_or-eq_default}
 use borrow.Author.Count.{below_more}
 use borrow.Author.Rules.{rules}
-use Rattle.sheet_lines.specs.Laws.Counts.{first_zero}
+use Rattle.sheet_lines.proofs.Laws.Counts.{first_zero}
 use Rattle.sheet_lines.proofs.call_count.Goals as goal
 
 pub returns-then-counts-n-eq0 : goal.returns-then-counts-n-eq0

@@ -1,8 +1,8 @@
 -- The three calls write the parts of the line, and there is room for each after the ones before it.
 use native.Mathlib.Omega.{arith}
 use borrow.Author.Rules.{rules}
-use Rattle.sheet_lines.specs.Laws.Append.{append_more, append_same, room_parts, room_first, room_rest}
-use Rattle.sheet_lines.specs.Laws.Calls.{slot_parts}
+use Rattle.sheet_lines.proofs.Laws.Append.{append_more, append_same, room_parts, room_first, room_rest}
+use Rattle.sheet_lines.proofs.Laws.Calls.{slot_parts}
 use Rattle.sheet_lines.proofs.call_line.Goals as goal
 
 pub write_start-numbered-requires : goal.write_start-numbered-requires

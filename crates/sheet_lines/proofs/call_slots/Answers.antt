@@ -1,8 +1,8 @@
 -- By the test the call is cancelled, and a dash is written, or the numbers of its open slots are.
 use mathlib.Core.Path.{sym}
 use borrow.Author.Rules.{rules}
-use Rattle.sheet_lines.specs.Laws.Append.{append_same, room_same}
-use Rattle.sheet_lines.specs.Laws.Calls.{dash, no_dash}
+use Rattle.sheet_lines.proofs.Laws.Append.{append_same, room_same}
+use Rattle.sheet_lines.proofs.Laws.Calls.{dash, no_dash}
 use Rattle.sheet_lines.proofs.call_slots.Goals as goal
 
 pub write_bytes-requires : goal.write_bytes-requires

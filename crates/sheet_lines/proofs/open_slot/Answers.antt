@@ -2,8 +2,8 @@
 use mathlib.Core.Path.{sym}
 use native.Mathlib.Omega.{arith}
 use borrow.Author.Rules.{rules}
-use Rattle.sheet_lines.specs.Laws.Append.{append_none, append_same, room_same}
-use Rattle.sheet_lines.specs.Laws.Calls.{open_number_lem, no_number}
+use Rattle.sheet_lines.proofs.Laws.Append.{append_none, append_same, room_same}
+use Rattle.sheet_lines.proofs.Laws.Calls.{open_number_lem, no_number}
 use Rattle.sheet_lines.proofs.open_slot.Goals as goal
 
 pub write_spaced-requires : goal.write_spaced-requires

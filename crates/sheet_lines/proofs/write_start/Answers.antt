@@ -1,6 +1,6 @@
 -- The letter, and then the number after a space.
 use borrow.Author.Rules.{rules}
-use Rattle.sheet_lines.specs.Laws.Append.{append_more}
+use Rattle.sheet_lines.proofs.Laws.Append.{append_more}
 use Rattle.sheet_lines.proofs.write_start.Goals as goal
 
 pub returns : goal.returns

@@ -2,7 +2,7 @@
 use Prim.Native.Nat.{◌≤◌, ◌-◌}
 use native.Mathlib.Omega.{arith}
 use Rattle.command_draft.specs.Fields.{call_before?}
-use Rattle.model.specs.Laws.Search.{NoneBelow, none_start, none_more_by, none_found, some_found_by}
+use Rattle.model.proofs.Laws.Search.{NoneBelow, none_start, none_more_by, none_found, some_found_by}
 use borrow.Author.Rules.{rules}
 use Rattle.command_draft.proofs.fields.call_twice.Goals as goal
 

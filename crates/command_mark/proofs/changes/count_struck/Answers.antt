@@ -5,7 +5,7 @@ use Prim.Native.Nat.{◌-◌, ◌/◌, ◌%◌, ◌≤◌}
 use native.Mathlib.Omega.{arith}
 use borrow.Author.Rules.{rules}
 use Rattle.model.specs.Report.{open?, struck?}
-use Rattle.model.specs.Laws.Counts.{CountTo, count_to_none, count_to_more, count_to_at}
+use Rattle.model.proofs.Laws.Counts.{CountTo, count_to_none, count_to_more, count_to_at}
 use Rattle.command_mark.specs.Laws.Changes.{closed_place}
 use Rattle.command_mark.proofs.changes.count_struck.Goals as goal
 

@@ -1,6 +1,6 @@
 -- The chain of the code is that of the table over the bytes.
 use borrow.Author.Rules.{rules}
-use Rattle.model.specs.Laws.Refusals.{chain_first}
+use Rattle.model.proofs.Laws.Refusals.{chain_first}
 use Rattle.command_rules.specs.Checks.{post_checks}
 use Rattle.command_rules.proofs.post.check_post.Statement.{statement}
 use Rattle.command_rules.proofs.post.check_post.Tie as tie

@@ -2,7 +2,7 @@
 use mathlib.Core.Path.{refl}
 use native.Mathlib.Omega.{arith}
 use borrow.Author.Rules.{rules}
-use Rattle.command_rules.specs.Laws.Fields.{heads_writable}
+use Rattle.command_rules.proofs.Laws.Fields.{heads_writable}
 use Rattle.command_rules.proofs.retract.retract_unchecked.Statement.{statement}
 use Rattle.command_rules.proofs.retract.retract_unchecked.Tie as tie
 

@@ -1,6 +1,6 @@
 -- The scan says which calls have a new slot, and so which rules become pending.
 use Rattle.filter_propagate.specs.Rules.{rules_in}
-use Rattle.filter_relax.specs.Laws.Closure.{expanded}
+use Rattle.filter_relax.proofs.Laws.Closure.{expanded}
 use Rattle.filter_relax.proofs.closure.expand.Goals as goal
 
 pub returns : goal.returns

@@ -5,7 +5,7 @@ use lib.Bits.{and_le_r}
 use lib.Count.{count_trailing_zeros}
 use lib.ListN.{get_or}
 use Rattle.tables.specs.Laws.Left.{left_lowest}
-use Rattle.filter_relax.specs.Laws.Reopen.{CallsReopened, call_le, calls_none, calls_more, calls_done, total_few}
+use Rattle.filter_relax.proofs.Laws.Reopen.{CallsReopened, call_le, calls_none, calls_more, calls_done, total_few}
 use borrow.Author.Rules.{rules}
 use Rattle.filter_relax.proofs.reopen.reopen_calls.Goals as goal
 

@@ -4,7 +4,7 @@ use native.Mathlib.Omega.{arith}
 use lib.Bits.{and_le_r}
 use lib.Count.{count_trailing_zeros}
 use Rattle.tables.specs.Laws.Left.{left_lowest}
-use Rattle.filter_relax.specs.Laws.Reopen.{SlotsReopened, slots_none, slots_more, slots_done}
+use Rattle.filter_relax.proofs.Laws.Reopen.{SlotsReopened, slots_none, slots_more, slots_done}
 use borrow.Author.Rules.{rules}
 use Rattle.filter_relax.proofs.reopen.reopen_slots.Given as goal
 

@@ -8,7 +8,7 @@ use Rattle.tables.specs.Masks.{all_flags}
 use Rattle.tables.specs.Laws.Left.{left_lowest}
 use Rattle.filter_propagate.specs.Rules.{bytes_of}
 use Rattle.filter_relax.specs.Revive.{RuleFreed}
-use Rattle.filter_relax.specs.Laws.Revive.{RulesRevived, rules_none, rules_more, rules_done}
+use Rattle.filter_relax.proofs.Laws.Revive.{RulesRevived, rules_none, rules_more, rules_done}
 use borrow.Author.Rules.{rules}
 use Rattle.filter_relax.proofs.revive.revive_rules.Given as goal
 

@@ -1,6 +1,6 @@
 -- The slots with the cause q, without those that are visited.
 use native.Mathlib.Omega.{arith}
-use Rattle.filter_relax.specs.Laws.Scan.{column_wanted}
+use Rattle.filter_relax.proofs.Laws.Scan.{column_wanted}
 use borrow.Author.Rules.{rules}
 use Rattle.filter_relax.proofs.scan.column_wanted.Goals as goal
 

@@ -1,5 +1,5 @@
 -- The killer's bit says whether the row's slots join.
-use Rattle.filter_relax.specs.Laws.Scan.{row_scanned}
+use Rattle.filter_relax.proofs.Laws.Scan.{row_scanned}
 use borrow.Author.Rules.{rules}
 use Rattle.filter_relax.proofs.scan.scan_row.Goals as goal
 

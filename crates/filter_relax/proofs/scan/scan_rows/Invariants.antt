@@ -3,7 +3,7 @@ use Prim.Native.Nat.{◌≤◌, ◌-◌}
 use native.Mathlib.Omega.{arith}
 use borrow.Author.Rules.{rules}
 use Rattle.filter_relax.specs.Scan.{Scanned}
-use Rattle.filter_relax.specs.Laws.Scan.{scanned_none, scanned_more, scanned_at}
+use Rattle.filter_relax.proofs.Laws.Scan.{scanned_none, scanned_more, scanned_at}
 use Rattle.filter_relax.proofs.scan.scan_rows.Given as goal
 
 abbrev pub invariant-loop-w : goal.invariant-loop-w

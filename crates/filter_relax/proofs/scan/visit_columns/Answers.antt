@@ -6,7 +6,7 @@ use lib.ListN.{length}
 use borrow.Author.Rules.{rules}
 use Rattle.filter_relax.specs.Spread.{ColumnMask, Adds}
 use Rattle.tables.specs.Assign.{Below}
-use Rattle.filter_relax.specs.Laws.Spread.{adds_none, adds_more, adds_at, adds_size}
+use Rattle.filter_relax.proofs.Laws.Spread.{adds_none, adds_more, adds_at, adds_size}
 use Rattle.filter_relax.proofs.scan.visit_columns.Goals as goal
 
 pub loop-k-preserved : goal.loop-k-preserved

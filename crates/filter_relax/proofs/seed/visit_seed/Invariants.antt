@@ -6,8 +6,8 @@ use lib.ListN.{length}
 use borrow.Author.Rules.{rules}
 use Rattle.filter_relax.specs.Touched.{Seeded}
 use Rattle.filter_relax.specs.Spread.{Adds}
-use Rattle.filter_relax.specs.Laws.Spread.{adds_none, adds_more, adds_at, adds_size}
-use Rattle.filter_relax.specs.Laws.Seed.{adds_caused}
+use Rattle.filter_relax.proofs.Laws.Spread.{adds_none, adds_more, adds_at, adds_size}
+use Rattle.filter_relax.proofs.Laws.Seed.{adds_caused}
 use Rattle.filter_relax.proofs.seed.visit_seed.Given as goal
 
 abbrev pub invariant-loop-k : goal.invariant-loop-k

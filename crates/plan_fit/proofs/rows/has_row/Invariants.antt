@@ -1,7 +1,7 @@
 -- None of the rows before w matches.
 use Prim.Native.Nat.{◌-◌, ◌≤◌}
 use native.Mathlib.Omega.{arith}
-use Rattle.model.specs.Laws.Search.{NoneBelow, none_start}
+use Rattle.model.proofs.Laws.Search.{NoneBelow, none_start}
 use Rattle.plan_fit.specs.Words.{row_matches?}
 use Rattle.plan_fit.specs.Laws.Rows.{part_passes, part_fails, part_last}
 use borrow.Author.Rules.{rules}

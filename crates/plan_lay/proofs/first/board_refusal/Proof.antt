@@ -2,7 +2,7 @@
 use mathlib.Core.List.{[]}
 use Rattle.layout.specs.Memory.{state_of_parts}
 use Rattle.model.specs.Questions.{board_checks}
-use Rattle.model.specs.Laws.Refusals.{chain_first}
+use Rattle.model.proofs.Laws.Refusals.{chain_first}
 use borrow.Author.Rules.{rules}
 use Rattle.plan_lay.proofs.first.board_refusal.Statement.{statement}
 use Rattle.plan_lay.proofs.first.board_refusal.Tie as tie

@@ -1,6 +1,6 @@
 -- No call is laid, and all trials are left.
 use native.Mathlib.Omega.{arith}
-use Rattle.plan_search.specs.Laws.Full.{clear_first}
+use Rattle.plan_search.proofs.Laws.Full.{clear_first}
 use Rattle.plan_lay.specs.Laws.Answers.{all_laid}
 use borrow.Author.Rules.{rules}
 use Rattle.plan_lay.proofs.first.lay_all.Statement.{statement}

@@ -5,7 +5,7 @@ use Prim.Native.Nat.{ℕ, ◌+◌, ◌-◌, ◌*◌, ◌<◌}
 use native.Mathlib.Omega.{arith}
 use borrow.Author.Rules.{rules}
 use borrow.Author.Tests.{eq-eqb, ne_eqb, not-true, not-false}
-use Rattle.plan_search.specs.Laws.Search.{clear_later, clear_set}
+use Rattle.plan_search.proofs.Laws.Search.{clear_later, clear_set}
 use Rattle.plan_lay.specs.Laws.Steps.{calls_done, call_skipped, call_laid, slots_done, slot_found, slot_stops, slot_leaves, slot_stopped, slot_vain, slot_stays, at_none, at_stopped, at_found}
 use borrow.Fn.Kinds.{In}
 use borrow.Fn.PlainCycle.{Measures, is, falls, and}

@@ -4,7 +4,7 @@ use native.Mathlib.Omega.{arith}
 use borrow.Author.Rules.{rules}
 use Rattle.model.specs.Report.{open?}
 use Rattle.questions.specs.Mask.{SummedTo}
-use Rattle.questions.specs.Laws.Mask.{summed_none, summed_more, summed_fits, summed_all}
+use Rattle.questions.proofs.Laws.Mask.{summed_none, summed_more, summed_fits, summed_all}
 use Rattle.questions.proofs.read.open_mask.Goals as goal
 
 pub overflow_add-mask : goal.overflow_add-mask

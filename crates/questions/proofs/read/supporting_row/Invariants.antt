@@ -8,8 +8,8 @@ use borrow.Author.Rules.{rules}
 use mathlib.Core.List.{List, []}
 use Rattle.model.specs.Tests.{some?}
 use Rattle.model.specs.Questions.{supports?}
-use Rattle.model.specs.Laws.Tests.{→T}
-use Rattle.model.specs.Laws.Questions.{first_none, first_found}
+use Rattle.model.proofs.Laws.Tests.{→T}
+use Rattle.model.proofs.Laws.Questions.{first_none, first_found}
 use Rattle.layout.specs.Memory.{state_of_parts}
 use Rattle.questions.proofs.read.supporting_row.Given as goal
 

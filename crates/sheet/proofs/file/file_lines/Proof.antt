@@ -2,7 +2,7 @@
 use borrow.Author.Rules.{rules}
 use Rattle.layout.specs.Laws.Memory.{filled}
 use Rattle.layout.specs.Sizes.{marks_length}
-use Rattle.model.specs.Laws.Fresh.{fresh_marked_lem}
+use Rattle.model.proofs.Laws.Fresh.{fresh_marked_lem}
 use Rattle.sheet.proofs.file.file_lines.Statement.{statement}
 use Rattle.sheet.proofs.file.file_lines.Tie as tie
 
