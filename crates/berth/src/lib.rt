@@ -62,8 +62,8 @@ pub extern "C" fn berth_command(
     table: &mut [Summary],
 ) -> CommandReply
     ensures { CommandReplied
-        bytes.now (whole_of (marked_memory value.old names.entry rows.entry killers.entry slots.entry marks.entry) table.old)
-        result (whole_of (marked_memory value.new names.exit rows.exit killers.exit slots.exit marks.exit) table.new) }
+        bytes.now (whole_of (marked_memory value.old names.old rows.old killers.old slots.old marks.old) table.old)
+        result (whole_of (marked_memory value.new names.new rows.new killers.new slots.new marks.new) table.new) }
 {
     let outcome = board::command(*value, names, bytes, rows, killers, slots, marks, table);
     *value = outcome.value;
@@ -84,8 +84,8 @@ pub extern "C" fn berth_replay(
     table: &mut [Summary],
 ) -> ReplayReply
     ensures { ReplayReplied
-        file.now (whole_of (marked_memory value.old names.entry rows.entry killers.entry slots.entry marks.entry) table.old) result
-        (whole_of (marked_memory value.new names.exit rows.exit killers.exit slots.exit marks.exit) table.new) }
+        file.now (whole_of (marked_memory value.old names.old rows.old killers.old slots.old marks.old) table.old) result
+        (whole_of (marked_memory value.new names.new rows.new killers.new slots.new marks.new) table.new) }
 {
     let replayed = board::replay(*value, names, file, rows, killers, slots, marks, table);
     *value = replayed.value;
@@ -101,7 +101,7 @@ pub extern "C" fn berth_open_slots(
     slots: &[u8],
     call: u8,
 ) -> SlotsReply
-    ensures { Replied (SlotsPromise (memory value rows.entry killers.entry slots.entry) call) slots_reply result }
+    ensures { Replied (SlotsPromise (memory value rows.now killers.now slots.now) call) slots_reply result }
 {
     berth_reply::of_open_slots(questions::open_slots(value, rows, killers, slots, call))
 }
@@ -116,7 +116,7 @@ pub extern "C" fn berth_slot_state(
     call: u8,
     slot: u8,
 ) -> StateReply
-    ensures { Replied (StatePromise (memory value rows.entry killers.entry slots.entry) call slot) state_reply result }
+    ensures { Replied (StatePromise (memory value rows.now killers.now slots.now) call slot) state_reply result }
 {
     berth_reply::of_slot_state(questions::slot_state(value, rows, killers, slots, call, slot))
 }
@@ -131,7 +131,7 @@ pub extern "C" fn berth_row_state(
     rule: u8,
     row: u8,
 ) -> RowReply
-    ensures { Replied (RowPromise (memory value rows.entry killers.entry slots.entry) rule row) row_reply result }
+    ensures { Replied (RowPromise (memory value rows.now killers.now slots.now) rule row) row_reply result }
 {
     berth_reply::of_row_state(questions::row_state(value, rows, killers, slots, rule, row))
 }
@@ -146,7 +146,7 @@ pub extern "C" fn berth_row_place(
     rule: u8,
     row: u8,
 ) -> PlaceReply
-    ensures { PlaceReplied (memory value rows.entry killers.entry slots.entry) rule row result }
+    ensures { PlaceReplied (memory value rows.now killers.now slots.now) rule row result }
 {
     let part = questions::row_bytes(value, rows, killers, slots, rule, row);
     berth_reply::of_row_bytes(part.len(), rule, row)
@@ -164,7 +164,7 @@ pub extern "C" fn berth_support(
     slot: u8,
 ) -> SupportReply
     ensures { Replied
-        (SupportPromise (memory value rows.entry killers.entry slots.entry) rule column slot)
+        (SupportPromise (memory value rows.now killers.now slots.now) rule column slot)
         support_reply result }
 {
     berth_reply::of_support(questions::support(value, rows, killers, slots, rule, column, slot))
@@ -179,7 +179,7 @@ pub extern "C" fn berth_check_plan(
     slots: &[u8],
     plan: &[u8],
 ) -> PlanReply
-    ensures { Replied (PlanPromise (memory value rows.entry killers.entry slots.entry) plan.now) plan_reply result }
+    ensures { Replied (PlanPromise (memory value rows.now killers.now slots.now) plan.now) plan_reply result }
 {
     berth_reply::of_plan_check(plan_check::check_plan(value, rows, killers, slots, plan))
 }
@@ -193,7 +193,7 @@ pub extern "C" fn berth_first_plan(
     slots: &[u8],
     ceiling: u32,
 ) -> FirstReply
-    ensures { Replied (FirstPromise (memory value rows.entry killers.entry slots.entry) ceiling) first_reply result }
+    ensures { Replied (FirstPromise (memory value rows.now killers.now slots.now) ceiling) first_reply result }
 {
     berth_reply::of_first_plan(plan_lay::first_plan(value, rows, killers, slots, ceiling))
 }

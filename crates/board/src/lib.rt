@@ -36,8 +36,8 @@ pub fn command(
     table: &mut [Summary],
 ) -> Outcome
     ensures { Promise
-        (whole_of (marked_memory value names.entry rows.entry killers.entry slots.entry marks.entry) table.old) bytes.now result.answer
-        (whole_of (marked_memory result.value names.exit rows.exit killers.exit slots.exit marks.exit) table.new) }
+        (whole_of (marked_memory value names.old rows.old killers.old slots.old marks.old) table.old) bytes.now result.answer
+        (whole_of (marked_memory result.value names.new rows.new killers.new slots.new marks.new) table.new) }
 {
     let n = table.len();
     let done = command_core(value, names, bytes, rows, killers, slots, marks, n);
@@ -58,8 +58,8 @@ pub fn replay(
     table: &mut [Summary],
 ) -> Replayed
     ensures { ReplayPromise
-        (whole_of (marked_memory value names.entry rows.entry killers.entry slots.entry marks.entry) table.old) file.now result.number result.ran
-        (whole_of (marked_memory result.value names.exit rows.exit killers.exit slots.exit marks.exit) table.new) }
+        (whole_of (marked_memory value names.old rows.old killers.old slots.old marks.old) table.old) file.now result.number result.ran
+        (whole_of (marked_memory result.value names.new rows.new killers.new slots.new marks.new) table.new) }
 {
     let n = table.len();
     let done = replay_core(value, names, file, rows, killers, slots, marks, n);

@@ -93,8 +93,8 @@ pub fn make_board(
     requires killers_len { length killers.old ≡ killers_length }
     requires slots_len { length slots.old ≡ slots_length }
     ensures { MakesBoard
-        counts (memory value rows.entry killers.entry slots.entry) result.answer
-        (memory result.value rows.exit killers.exit slots.exit) }
+        counts (memory value rows.old killers.old slots.old) result.answer
+        (memory result.value rows.new killers.new slots.new) }
 {
     if bad_counts(&counts) {
         return Outcome::refused(BAD_COUNTS, value);

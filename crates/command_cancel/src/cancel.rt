@@ -30,8 +30,8 @@ pub fn cancel_unchecked(
 ) -> Outcome
     requires { Sizes rows.now killers.old slots.old }
     ensures { CallCancelled
-        call (memory value rows.entry killers.entry slots.entry) result.answer
-        (memory result.value rows.entry killers.exit slots.exit) }
+        call (memory value rows.now killers.old slots.old) result.answer
+        (memory result.value rows.now killers.new slots.new) }
 {
     let heads = value.heads;
     let counts = heads.counts;
@@ -54,8 +54,8 @@ pub fn cancel_call(
 ) -> Outcome
     requires { Sizes rows.now killers.old slots.old }
     ensures { CancelPromise
-        call (memory value rows.entry killers.entry slots.entry) result.answer
-        (memory result.value rows.entry killers.exit slots.exit) }
+        call (memory value rows.now killers.old slots.old) result.answer
+        (memory result.value rows.now killers.new slots.new) }
 {
     let heads = value.heads;
     let counts = heads.counts;

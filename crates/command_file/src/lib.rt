@@ -89,8 +89,8 @@ fn take_next(
     requires marks_len { length marks.old ≡ marks_length }
     requires in_file { InFile file.now position }
     ensures { Taken
-        file.now position (marked_memory position.value names.entry rows.entry killers.entry slots.entry marks.entry) result
-        (marked_memory result.value names.exit rows.exit killers.exit slots.exit marks.exit) }
+        file.now position (marked_memory position.value names.old rows.old killers.old slots.old marks.old) result
+        (marked_memory result.value names.new rows.new killers.new slots.new marks.new) }
 {
     let value = position.value;
     let at = position.at;
@@ -127,9 +127,9 @@ fn take_all(
 ) -> Replayed
     requires sizes { Sizes rows.old killers.old slots.old }
     requires marks_len { length marks.old ≡ marks_length }
-    requires fresh { IsFresh marks.old (marked_memory value names rows killers slots marks) }
+    requires fresh { IsFresh marks.old (marked_memory value names.old rows.old killers.old slots.old marks.old) }
     ensures { FileTaken
-        marks.old file.now result.number result.ran (marked_memory result.value names.exit rows.exit killers.exit slots.exit marks.exit) }
+        marks.old file.now result.number result.ran (marked_memory result.value names.new rows.new killers.new slots.new marks.new) }
 {
     let mut position = Position {
         value,
@@ -161,7 +161,7 @@ fn run_file(
     requires marks_len { length marks.old ≡ marks_length }
     ensures { FileCounted
         marks.old file.now result.replayed.number result.replayed.ran result.count
-        (whole_of (marked_memory result.replayed.value names.exit rows.exit killers.exit slots.exit marks.exit) result.table.records) }
+        (whole_of (marked_memory result.replayed.value names.new rows.new killers.new slots.new marks.new) result.table.records) }
 {
     fill_fresh(rows, killers, slots);
     forget(names);
@@ -204,8 +204,8 @@ pub fn replay_core(
 ) -> ReplayDone
     ensures { Stores
         (λ old new. ReplayPromise
-        (whole_of (marked_memory value names.entry rows.entry killers.entry slots.entry marks.entry) old) file.now result.replayed.number result.replayed.ran
-        (whole_of (marked_memory result.replayed.value names.exit rows.exit killers.exit slots.exit marks.exit) new))
+        (whole_of (marked_memory value names.old rows.old killers.old slots.old marks.old) old) file.now result.replayed.number result.replayed.ran
+        (whole_of (marked_memory result.replayed.value names.new rows.new killers.new slots.new marks.new) new))
         n result.count result.table.records }
 {
     if bad_buffers(rows, killers, slots, marks) {

@@ -1,4 +1,3 @@
 pub mod Pairs
 pub mod Draft
 pub mod Checks
-pub mod Laws

@@ -54,7 +54,7 @@ fn back_unchecked(
     requires marks_len { length marks.now ≡ marks_length }
     ensures { BringsBack
         name names.now marks.now slots.old result.answer
-        (memory result.value rows.exit killers.exit slots.exit) }
+        (memory result.value rows.new killers.new slots.new) }
 {
     let heads = heads_under(names, name as usize);
     let changes = changes_back(slots, marks, name as usize);
@@ -75,8 +75,8 @@ pub fn back_board(
     requires sizes { Sizes rows.old killers.old slots.old }
     requires marks_len { length marks.now ≡ marks_length }
     ensures { MarkPromise
-        (kind.Back name) (marked_memory value names.entry rows.entry killers.entry slots.entry marks.entry) result.answer
-        (marked_memory result.value names.entry rows.exit killers.exit slots.exit marks.entry) }
+        (kind.Back name) (marked_memory value names.now rows.old killers.old slots.old marks.now) result.answer
+        (marked_memory result.value names.now rows.new killers.new slots.new marks.now) }
 {
     let heads = value.heads;
     let counts = heads.counts;

@@ -41,8 +41,8 @@ fn keep_unchecked(
     requires sizes { Sizes rows.now killers.now slots.now }
     requires marks_len { length marks.old ≡ marks_length }
     ensures { KeepsBoard
-        name (marked_memory value names.entry rows.entry killers.entry slots.entry marks.entry) result.answer
-        (marked_memory result.value names.exit rows.entry killers.entry slots.entry marks.exit) }
+        name (marked_memory value names.old rows.now killers.now slots.now marks.old) result.answer
+        (marked_memory result.value names.new rows.now killers.now slots.now marks.new) }
 {
     keep(marks, name as usize, rows, killers, slots);
     store_name(names, name as usize, 1, value.heads);
@@ -62,8 +62,8 @@ pub fn keep_board(
     requires sizes { Sizes rows.now killers.now slots.now }
     requires marks_len { length marks.old ≡ marks_length }
     ensures { MarkPromise
-        (kind.Keep name) (marked_memory value names.entry rows.entry killers.entry slots.entry marks.entry) result.answer
-        (marked_memory result.value names.exit rows.entry killers.entry slots.entry marks.exit) }
+        (kind.Keep name) (marked_memory value names.old rows.now killers.now slots.now marks.old) result.answer
+        (marked_memory result.value names.new rows.now killers.now slots.now marks.new) }
 {
     let heads = value.heads;
     let counts = heads.counts;

@@ -1,2 +1,1 @@
 pub mod Obeys
-pub mod Laws

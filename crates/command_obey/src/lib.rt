@@ -23,8 +23,8 @@ fn make_anew(
 ) -> Outcome
     requires { Sizes rows.old killers.old slots.old }
     ensures { MakesAnew
-        counts (memory value rows.entry killers.entry slots.entry) names.old result.answer
-        (memory result.value rows.exit killers.exit slots.exit) names.new }
+        counts (memory value rows.old killers.old slots.old) names.old result.answer
+        (memory result.value rows.new killers.new slots.new) names.new }
 {
     let outcome = command_board::new_board::make_board(value, counts, rows, killers, slots);
     let answer = outcome.answer;
@@ -51,8 +51,8 @@ pub fn obey(
     requires sizes { Sizes rows.old killers.old slots.old }
     requires marks_len { length marks.old ≡ marks_length }
     ensures { Obeys
-        (marked_memory value names.entry rows.entry killers.entry slots.entry marks.entry) command counts result.answer
-        (marked_memory result.value names.exit rows.exit killers.exit slots.exit marks.exit) }
+        (marked_memory value names.old rows.old killers.old slots.old marks.old) command counts result.answer
+        (marked_memory result.value names.new rows.new killers.new slots.new marks.new) }
 {
     match command {
         Command::Board => make_anew(value, names, counts, rows, killers, slots),

@@ -1,3 +1,2 @@
 pub mod Checks
 pub mod Changes
-pub mod Laws

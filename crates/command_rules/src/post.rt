@@ -33,8 +33,8 @@ pub fn post_unchecked(
 ) -> Outcome
     requires { Sizes rows.old killers.old slots.old }
     ensures { Posted
-        draft (memory value rows.entry killers.entry slots.entry) result.answer
-        (memory result.value rows.exit killers.exit slots.exit) }
+        draft (memory value rows.old killers.old slots.old) result.answer
+        (memory result.value rows.new killers.new slots.new) }
 {
     let heads = value.heads;
     let counts = heads.counts;
@@ -66,8 +66,8 @@ pub fn post_unchecked(
 pub fn post(value: Value, rows: &mut [u8], killers: &mut [u8], slots: &mut [u8]) -> Outcome
     requires { Sizes rows.old killers.old slots.old }
     ensures { RulesPromise
-        kind.Post (memory value rows.entry killers.entry slots.entry) result.answer
-        (memory result.value rows.exit killers.exit slots.exit) }
+        kind.Post (memory value rows.old killers.old slots.old) result.answer
+        (memory result.value rows.new killers.new slots.new) }
 {
     let heads = value.heads;
     let counts = heads.counts;

@@ -33,8 +33,8 @@ pub fn retract_unchecked(
 ) -> Outcome
     requires { Sizes rows.old killers.old slots.old }
     ensures { Retracted
-        number (memory value rows.entry killers.entry slots.entry) result.answer
-        (memory result.value rows.exit killers.exit slots.exit) }
+        number (memory value rows.old killers.old slots.old) result.answer
+        (memory result.value rows.new killers.new slots.new) }
 {
     let heads = value.heads;
     let counts = heads.counts;
@@ -75,8 +75,8 @@ pub fn retract(
 ) -> Outcome
     requires { Sizes rows.old killers.old slots.old }
     ensures { RulesPromise
-        (kind.Retract number) (memory value rows.entry killers.entry slots.entry) result.answer
-        (memory result.value rows.exit killers.exit slots.exit) }
+        (kind.Retract number) (memory value rows.old killers.old slots.old) result.answer
+        (memory result.value rows.new killers.new slots.new) }
 {
     let heads = value.heads;
     let counts = heads.counts;

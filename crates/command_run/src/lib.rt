@@ -43,8 +43,8 @@ fn obey_read(
     requires marks_len { length marks.old ≡ marks_length }
     requires decoded_value { decoded ≡ read_at bytes.now 0 }
     ensures { MemoryPromise lengths
-        (marked_memory value names.entry rows.entry killers.entry slots.entry marks.entry) bytes.now
-        result.answer (marked_memory result.value names.exit rows.exit killers.exit slots.exit marks.exit) }
+        (marked_memory value names.old rows.old killers.old slots.old marks.old) bytes.now
+        result.answer (marked_memory result.value names.new rows.new killers.new slots.new marks.new) }
 {
     let read = decoded.read;
     let counts = decoded.counts;
@@ -74,8 +74,8 @@ pub fn obey_bytes(
     requires sizes { Sizes rows.old killers.old slots.old }
     requires marks_len { length marks.old ≡ marks_length }
     ensures { MemoryPromise lengths
-        (marked_memory value names.entry rows.entry killers.entry slots.entry marks.entry) bytes.now
-        result.answer (marked_memory result.value names.exit rows.exit killers.exit slots.exit marks.exit) }
+        (marked_memory value names.old rows.old killers.old slots.old marks.old) bytes.now
+        result.answer (marked_memory result.value names.new rows.new killers.new slots.new marks.new) }
 {
     let decoded = command_decode::decode(bytes, 0);
     obey_read(value, names, decoded, bytes, rows, killers, slots, marks)
@@ -126,8 +126,8 @@ pub fn command_core(
 ) -> Done
     ensures { Stores
         (λ old new. Promise
-        (whole_of (marked_memory value names.entry rows.entry killers.entry slots.entry marks.entry) old) bytes.now result.outcome.answer
-        (whole_of (marked_memory result.outcome.value names.exit rows.exit killers.exit slots.exit marks.exit) new))
+        (whole_of (marked_memory value names.old rows.old killers.old slots.old marks.old) old) bytes.now result.outcome.answer
+        (whole_of (marked_memory result.outcome.value names.new rows.new killers.new slots.new marks.new) new))
         n result.count result.table.records }
 {
     if bad_buffers(rows, killers, slots, marks) {

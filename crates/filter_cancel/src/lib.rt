@@ -56,7 +56,7 @@ fn strike_without(
     requires c_bound { c < 32 }
     requires n_bound { n ≤ 32 }
     ensures { StruckWithout
-        c n result (flags_of 64 pending) (rules_in rows.entry arity.entry scope.entry lengths.entry)
+        c n result (flags_of 64 pending) (rules_in rows.now arity.now scope.now lengths.now)
         killers.old killers.new slots.old slots.new }
 {
     withdraw(slots, c, n);
@@ -95,7 +95,7 @@ fn cancel_struck(
     requires n_bound { n ≤ 32 }
     requires seeding { Seeding (OwnStruck slots.old c) visited.old calls }
     ensures { CancelReworked
-        c n (rules_in rows.entry arity.entry scope.entry lengths.entry) killers.old
+        c n (rules_in rows.now arity.now scope.now lengths.now) killers.old
         killers.new slots.old slots.new result.reopened result.touched }
 {
     let on = masks::rules::rules_on_calls(arity, scope);
@@ -122,7 +122,7 @@ pub fn cancel(
     requires c_bound { c < 32 }
     requires n_bound { n ≤ 32 }
     ensures { CancelDone
-        c n (rules_in rows.entry arity.entry scope.entry lengths.entry) killers.old
+        c n (rules_in rows.now arity.now scope.now lengths.now) killers.old
         killers.new slots.old slots.new result.reopened result.touched }
 {
     let mut visited = [0u32; 32];

@@ -23,11 +23,11 @@ pub fn post(
     rule: RuleData,
 ) -> usize
     requires sizes { Sizes rows.old killers.old slots.old }
-    requires writable { Writable p (rules_in rows arity scope lengths) }
+    requires writable { Writable p (rules_in rows.old arity.old scope.old lengths.old) }
     ensures { PostDone
         p result rule
-        (rules_in rows.entry arity.entry scope.entry lengths.entry)
-        (rules_in rows.exit arity.exit scope.exit lengths.exit) killers.old
+        (rules_in rows.old arity.old scope.old lengths.old)
+        (rules_in rows.new arity.new scope.new lengths.new) killers.old
         killers.new slots.old slots.new }
 {
     write::write_rule(rows, arity, scope, lengths, p, rule);

@@ -42,11 +42,11 @@ pub fn write_rule(
     p: usize,
     rule: RuleData,
 )
-    requires { Writable p (rules_in rows arity scope lengths) }
+    requires { Writable p (rules_in rows.old arity.old scope.old lengths.old) }
     ensures { RuleWritten
         p rule
-        (rules_in rows.entry arity.entry scope.entry lengths.entry)
-        (rules_in rows.exit arity.exit scope.exit lengths.exit) }
+        (rules_in rows.old arity.old scope.old lengths.old)
+        (rules_in rows.new arity.new scope.new lengths.new) }
 {
     let calls = rule.scope;
     let table = rule.rows;

@@ -1,6 +1,5 @@
 -- The rules as bytes, and what propagation changes.
 use Rattle.std.specs.Prelude.{◌≡◌, List, Bool, ℕ, ◌<◌}
-use Rattle.std.specs.Borrow.{Bor}
 use Rattle.layout.specs.Places.{call_of}
 
 -- the rules as bytes: their rows, and the heads with their numbers of columns, their calls and their numbers of rows
@@ -14,8 +13,8 @@ abbrev pub bytes_of : List ℕ → List ℕ → List ℕ → List ℕ → RuleBy
 bytes_of rows arity scope lengths = record { rows = rows; arity = arity; scope = scope; lengths = lengths }
 
 -- those that a function is lent
-abbrev pub rules_in : Bor (List ℕ) → Bor (List ℕ) → Bor (List ℕ) → Bor (List ℕ) → RuleBytes
-rules_in rows arity scope lengths = bytes_of rows.now arity.now scope.now lengths.now
+abbrev pub rules_in : List ℕ → List ℕ → List ℕ → List ℕ → RuleBytes
+rules_in rows arity scope lengths = bytes_of rows arity scope lengths
 
 -- what propagate changes: the killers, the slots, and the flags of the pending rules
 pub record Progress : Type 0 where

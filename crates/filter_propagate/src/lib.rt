@@ -50,7 +50,7 @@ pub fn revise(
     requires p_bound { p < 64 }
     requires known { Known (Has known) slots.old opened.old struck.old }
     ensures revision { Revision
-        (rules_in rows.entry arity.entry scope.entry lengths.entry) p result.number result.calls
+        (rules_in rows.now arity.now scope.now lengths.now) p result.number result.calls
         killers.old killers.new slots.old slots.new }
     ensures known_2 { Known (Has result.known) slots.new opened.new struck.new }
 {
@@ -89,7 +89,7 @@ pub fn step(
     requires has { Has pending p }
     requires known { Known (Has known) slots.old opened.old struck.old }
     ensures stepped { Stepped
-        (rules_in rows.entry arity.entry scope.entry lengths.entry) p result.struck
+        (rules_in rows.now arity.now scope.now lengths.now) p result.struck
         (reached killers.old slots.old (flags_of 64 pending))
         (reached killers.new slots.new (flags_of 64 result.pending)) }
     ensures known_2 { Known (Has result.known) slots.new opened.new struck.new }
@@ -122,7 +122,7 @@ pub fn propagate_known(
     requires rules_on { RulesOn arity.now scope.now on.now }
     requires known { Known (Has known) slots.old opened.old struck.old }
     ensures { Propagated
-        (rules_in rows.entry arity.entry scope.entry lengths.entry) result
+        (rules_in rows.now arity.now scope.now lengths.now) result
         (reached killers.old slots.old (flags_of 64 pending))
         (reached killers.new slots.new (flags_of 64 0)) }
 {
@@ -156,7 +156,7 @@ pub fn propagate(
     requires sizes { Sizes rows.now killers.old slots.old }
     requires rules_on { RulesOn arity.now scope.now on.now }
     ensures { Propagated
-        (rules_in rows.entry arity.entry scope.entry lengths.entry) result
+        (rules_in rows.now arity.now scope.now lengths.now) result
         (reached killers.old slots.old (flags_of 64 pending))
         (reached killers.new slots.new (flags_of 64 0)) }
 {
@@ -190,7 +190,7 @@ pub fn propagate_from(
     requires sizes { Sizes rows.now killers.old slots.old }
     requires p_bound { p < 64 }
     ensures { Propagated
-        (rules_in rows.entry arity.entry scope.entry lengths.entry) result
+        (rules_in rows.now arity.now scope.now lengths.now) result
         (reached killers.old slots.old (only_rule p))
         (reached killers.new slots.new (flags_of 64 0)) }
 {

@@ -8,4 +8,3 @@ pub mod Closure
 pub mod Reopen
 pub mod Revive
 pub mod Relaxed
-pub mod Laws

@@ -35,7 +35,7 @@ pub fn expand(
     requires q_bound { q < 64 }
     requires has { Has front.pending q }
     ensures { Expanded
-        (rules_in rows.entry arity.entry scope.entry lengths.entry) killers.now
+        (rules_in rows.now arity.now scope.now lengths.now) killers.now
         slots.now q
         (traversal (all_flags 32 visited.old) (flags_of 32 front.calls) (flags_of 64 front.pending))
         (traversal (all_flags 32 visited.new) (flags_of 32 result.calls) (flags_of 64 result.pending)) }
@@ -64,7 +64,7 @@ pub fn close(
     requires rules_on { RulesOn arity.now scope.now on.now }
     requires calls_visited { CallsVisited (flags_of 32 calls) (all_flags 32 visited.old) }
     ensures { Closed
-        (rules_in rows.entry arity.entry scope.entry lengths.entry) killers.now
+        (rules_in rows.now arity.now scope.now lengths.now) killers.now
         slots.now (all_flags 32 visited.old)
         (traversal (all_flags 32 visited.new) (flags_of 32 result) (flags_of 64 0)) }
 {

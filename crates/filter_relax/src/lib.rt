@@ -44,7 +44,7 @@ pub fn relax(
     requires rules_on { RulesOn arity.now scope.now on.now }
     requires calls_visited { CallsVisited (flags_of 32 calls) (all_flags 32 visited.old) }
     ensures { Relaxed
-        (rules_in rows.entry arity.entry scope.entry lengths.entry)
+        (rules_in rows.now arity.now scope.now lengths.now)
         (IsFlagged (all_flags 32 visited.old)) result.touched killers.old killers.new
         slots.old slots.new (all_flags 32 visited.new) (flags_of 64 result.pending) }
 {

@@ -77,7 +77,7 @@ pub fn revive_rule(
     requires q_bound { q < 64 }
     ensures { Swept
         0
-        (RuleFreed (rules_in rows.entry arity.entry scope.entry lengths.entry) (all_flags 32 visited.now) q)
+        (RuleFreed (rules_in rows.now arity.now scope.now lengths.now) (all_flags 32 visited.now) q)
         (64 * q) 64 killers.old killers.new }
 {
     let n = layout::places::cap(arity[q], 4);
@@ -98,7 +98,7 @@ pub fn revive_rules(
 )
     requires { RowSizes rows.now killers.old }
     ensures { Blocks
-        (RuleRevived (rules_in rows.entry arity.entry scope.entry lengths.entry) (all_flags 32 visited.now) (flags_of 64 rules))
+        (RuleRevived (rules_in rows.now arity.now scope.now lengths.now) (all_flags 32 visited.now) (flags_of 64 rules))
         64 killers.old killers.new }
 {
     let mut left = rules;

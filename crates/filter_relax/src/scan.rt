@@ -224,7 +224,7 @@ pub fn scan_rule(
     requires visited_len { length visited.old ≡ 32 }
     requires q_bound { q < 64 }
     ensures { Scans
-        (RuleJustifies (rules_in rows.entry arity.entry scope.entry lengths.entry) killers.now slots.now q)
+        (RuleJustifies (rules_in rows.now arity.now scope.now lengths.now) killers.now slots.now q)
         (all_flags 32 visited.old) (all_flags 32 visited.new) result }
 {
     let n = layout::places::cap(arity[q], 4);

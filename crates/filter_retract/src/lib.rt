@@ -47,10 +47,10 @@ pub fn clear_rule(
     p: usize,
 )
     requires killers_len { length killers.old ≡ killers_length }
-    requires writable { Writable p (rules_in rows arity scope lengths) }
+    requires writable { Writable p (rules_in rows.old arity.old scope.old lengths.old) }
     ensures { RuleCleared
-        p (rules_in rows.entry arity.entry scope.entry lengths.entry)
-        (rules_in rows.exit arity.exit scope.exit lengths.exit) killers.old
+        p (rules_in rows.old arity.old scope.old lengths.old)
+        (rules_in rows.new arity.new scope.new lengths.new) killers.old
         killers.new }
 {
     filter_post::write::write_rule(rows, arity, scope, lengths, p, RuleData::empty());
@@ -70,11 +70,11 @@ pub fn strike_again(
     p: usize,
 ) -> usize
     requires sizes { Sizes rows.old killers.old slots.old }
-    requires writable { Writable p (rules_in rows arity scope lengths) }
+    requires writable { Writable p (rules_in rows.old arity.old scope.old lengths.old) }
     requires rules_on { RulesOn arity.old scope.old on.old }
     ensures { StruckAgain
-        p result (flags_of 64 pending) (rules_in rows.entry arity.entry scope.entry lengths.entry)
-        (rules_in rows.exit arity.exit scope.exit lengths.exit) killers.old
+        p result (flags_of 64 pending) (rules_in rows.old arity.old scope.old lengths.old)
+        (rules_in rows.new arity.new scope.new lengths.new) killers.old
         killers.new slots.old slots.new }
 {
     clear_rule(rows, killers, arity, scope, lengths, p);
@@ -97,11 +97,11 @@ pub fn retract_struck(
     p: usize,
 ) -> Retraction
     requires sizes { Sizes rows.old killers.old slots.old }
-    requires writable { Writable p (rules_in rows arity scope lengths) }
-    requires seeding { Seeding (CausedBy p (rules_in rows arity scope lengths) slots.old) visited.old calls }
+    requires writable { Writable p (rules_in rows.old arity.old scope.old lengths.old) }
+    requires seeding { Seeding (CausedBy p (rules_in rows.old arity.old scope.old lengths.old) slots.old) visited.old calls }
     ensures { Reworked
-        p (rules_in rows.entry arity.entry scope.entry lengths.entry)
-        (rules_in rows.exit arity.exit scope.exit lengths.exit) killers.old
+        p (rules_in rows.old arity.old scope.old lengths.old)
+        (rules_in rows.new arity.new scope.new lengths.new) killers.old
         killers.new slots.old slots.new result.reopened result.touched }
 {
     let mut on = masks::rules::rules_on_calls(arity, scope);
@@ -136,10 +136,10 @@ pub fn retract(
     p: usize,
 ) -> Retraction
     requires sizes { Sizes rows.old killers.old slots.old }
-    requires writable { Writable p (rules_in rows arity scope lengths) }
+    requires writable { Writable p (rules_in rows.old arity.old scope.old lengths.old) }
     ensures { RetractDone
-        p (rules_in rows.entry arity.entry scope.entry lengths.entry)
-        (rules_in rows.exit arity.exit scope.exit lengths.exit) killers.old
+        p (rules_in rows.old arity.old scope.old lengths.old)
+        (rules_in rows.new arity.new scope.new lengths.new) killers.old
         killers.new slots.old slots.new result.reopened result.touched }
 {
     let n = layout::places::cap(arity[p], 4);

@@ -1,6 +1,5 @@
 -- A STATE OF THE MEMORY: the value and the three buffers of the board; with the marks and a summary table beside them it is the whole that commands write. The fresh ones.
 use Rattle.std.specs.Prelude.{◌≡◌, List, ℕ, ◌<◌, length, replicate, get_or}
-use Rattle.std.specs.Borrow.{Bor}
 use Rattle.layout.specs.declared.value.Value.{Value}
 use Rattle.layout.specs.Value.{empty_draft, fresh_value}
 use Rattle.layout.specs.Names.{no_names}
@@ -19,8 +18,8 @@ abbrev pub state_of : Value → List ℕ → List ℕ → List ℕ → State
 state_of value rows killers slots = record { value = value; rows = rows; killers = killers; slots = slots }
 
 -- the same with the buffers that a function is lent
-abbrev pub memory : Value → Bor (List ℕ) → Bor (List ℕ) → Bor (List ℕ) → State
-memory value rows killers slots = state_of value rows.now killers.now slots.now
+abbrev pub memory : Value → List ℕ → List ℕ → List ℕ → State
+memory value rows killers slots = state_of value rows killers slots
 
 -- a state of these parts, for a function that is handed only some of them: [] stands for a part that it does not look at, and no question looks at the draft
 abbrev pub state_of_parts : List ℕ → List ℕ → List ℕ → List ℕ → List ℕ → List ℕ → List ℕ → State
@@ -45,8 +44,8 @@ abbrev pub marked_of : State → List ℕ → List ℕ → MarkedState
 marked_of s names marks = record { state = s; names = names; marks = marks }
 
 -- the same with the names and the buffers that a function is lent
-abbrev pub marked_memory : Value → Bor (List ℕ) → Bor (List ℕ) → Bor (List ℕ) → Bor (List ℕ) → Bor (List ℕ) → MarkedState
-marked_memory value names rows killers slots marks = marked_of (memory value rows killers slots) names.now marks.now
+abbrev pub marked_memory : Value → List ℕ → List ℕ → List ℕ → List ℕ → List ℕ → MarkedState
+marked_memory value names rows killers slots marks = marked_of (memory value rows killers slots) names marks
 
 -- THE WHOLE that a command is lent and writes: a state with the marks, and the summary table
 pub record Whole : Type 0 where

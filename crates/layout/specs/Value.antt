@@ -1,5 +1,5 @@
 -- THE FIXED VALUES beside the buffers: no calls and no rule in force, no draft, and both together.
-use Rattle.std.specs.Prelude.{length, replicate}
+use Rattle.std.specs.Prelude.{replicate}
 use Rattle.layout.specs.declared.value.Heads.{Heads}
 use Rattle.layout.specs.declared.value.RuleData.{RuleData}
 use Rattle.layout.specs.declared.value.Draft.{Draft}

@@ -2,6 +2,7 @@
 // none but the laws of lists of the crate tables.
 // Proved: every function. Assumed: nothing.
 #![tactic(auto)]
+
 pub mod value; // the value beside the buffers, and the buffers' lengths
 pub mod places; // where bytes lie, and caps
 pub mod fill; // one byte throughout

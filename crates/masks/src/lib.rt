@@ -2,6 +2,7 @@
 // calls. All of it is safe and ends on any contents of the buffers.
 // Proved: which numbers are in each mask (specs/). Assumed: nothing.
 #![tactic(auto)]
+
 pub mod slots; // the slots of a call
 pub mod columns; // a set of slots for each column of a rule
 pub mod rules; // the rules on each call, and the pending rules

@@ -21,4 +21,3 @@ pub mod Lists
 pub mod Again
 pub mod Samples
 pub mod WrongBoards
-pub mod Laws

@@ -2,6 +2,7 @@
 // and under Laws the theorems over them; the code is the types and the values that are fixed.
 // Proved: every function here and every theorem of specs/. Assumed: nothing.
 #![tactic(auto)]
+
 pub mod command; // the commands
 pub mod answer; // what commands and questions answer
 pub mod refusal; // the numbers of the refusals, and the chain of checks

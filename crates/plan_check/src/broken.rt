@@ -18,7 +18,7 @@ pub fn lowest_broken(
     requires rows_len { length rows.now ≡ rows_length }
     requires plan_len { length plan.now ≡ plan_size }
     ensures { result
-        ≡ lowest_broken (rules_in (rule_parts arity.entry scope.entry lengths.entry rows.entry slots.entry)) plan.now }
+        ≡ lowest_broken (rules_in (rule_parts arity.now scope.now lengths.now rows.now slots.now)) plan.now }
 {
     let mut p = 0;
     while p < 64 {

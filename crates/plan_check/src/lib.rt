@@ -14,7 +14,7 @@ use plan_model::answer::PlanCheck;
 
 // Whether the plan, 32 bytes with a slot for each call, keeps every rule in force.
 pub fn check_plan(value: Value, rows: &[u8], killers: &[u8], slots: &[u8], plan: &[u8]) -> PlanCheck
-    ensures { PlanPromise (memory value rows.entry killers.entry slots.entry) plan.now result }
+    ensures { PlanPromise (memory value rows.now killers.now slots.now) plan.now result }
 {
     let counts = value.heads.counts;
     let arity = value.heads.arity;

@@ -27,7 +27,7 @@ fn wrong_byte(held: u8, byte: u8) -> bool
 
 // Some byte of the plan is wrong. Without a branch, so that the compiler looks at several at once.
 fn wrong_plan(counts: &[u8; 32], slots: &[u8], plan: &[u8]) -> bool
-    ensures { result ≡ wrong_plan? (slots_on_in (call_parts counts.entry slots.entry)) plan.now }
+    ensures { result ≡ wrong_plan? (slots_on_in (call_parts counts.now slots.now)) plan.now }
 {
     let mut wrong = false;
     let mut c = 0;
@@ -41,7 +41,7 @@ fn wrong_plan(counts: &[u8; 32], slots: &[u8], plan: &[u8]) -> bool
 // The number of the first check that holds, or 0.
 pub fn plan_refusal(counts: &[u8; 32], rows: &[u8], killers: &[u8], slots: &[u8], plan: &[u8]) -> u8
     ensures { result
-        ≡ first_of (plan_checks (check_parts counts.entry rows.entry killers.entry slots.entry) plan.now) }
+        ≡ first_of (plan_checks (check_parts counts.now rows.now killers.now slots.now) plan.now) }
 {
     let another_length = plan.len() != 32;
     let no_board = counts[0] == 0;

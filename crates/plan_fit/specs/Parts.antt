@@ -1,12 +1,11 @@
 -- What the functions are handed of the state that a question is asked of.
 use Rattle.std.specs.Prelude.{List, [], ℕ}
-use Rattle.std.specs.Borrow.{Bor}
 use Rattle.layout.specs.Memory.{State, state_of_parts}
 
 -- the rules in force, their rows, and which calls are cancelled
-abbrev pub rule_parts : Bor (List ℕ) → Bor (List ℕ) → Bor (List ℕ) → Bor (List ℕ) → Bor (List ℕ) → State
-rule_parts arity scope lengths rows slots = state_of_parts [] arity.now scope.now lengths.now rows.now [] slots.now
+abbrev pub rule_parts : List ℕ → List ℕ → List ℕ → List ℕ → List ℕ → State
+rule_parts arity scope lengths rows slots = state_of_parts [] arity scope lengths rows [] slots
 
 -- the calls, and which of them are cancelled
-abbrev pub call_parts : Bor (List ℕ) → Bor (List ℕ) → State
-call_parts counts slots = state_of_parts counts.now [] [] [] [] [] slots.now
+abbrev pub call_parts : List ℕ → List ℕ → State
+call_parts counts slots = state_of_parts counts [] [] [] [] [] slots

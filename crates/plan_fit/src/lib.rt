@@ -27,7 +27,7 @@ pub fn breaks(
     requires plan_len { length plan.now ≡ plan_size }
     requires p_bound { p < 64 }
     ensures { result
-        ≡ breaks? (rules_in (rule_parts arity.entry scope.entry lengths.entry rows.entry slots.entry)) plan.now p }
+        ≡ breaks? (rules_in (rule_parts arity.now scope.now lengths.now rows.now slots.now)) plan.now p }
 {
     // most numbers of an everyday board are not in force
     if arity[p] == 0 {

@@ -24,7 +24,7 @@ pub struct Laid {
 
 // The number of the first check that holds, 1 or 6, or 0.
 pub fn board_refusal(counts: &[u8; 32], rows: &[u8], killers: &[u8], slots: &[u8]) -> u8
-    ensures { result ≡ first_of (board_checks (lent_parts counts.entry rows.entry killers.entry slots.entry)) }
+    ensures { result ≡ first_of (board_checks (lent_parts counts.now rows.now killers.now slots.now)) }
 {
     let n = or_refuse(0, bad_lengths(rows, killers, slots), BUFFER_LENGTH);
     or_refuse(n, counts[0] == 0, NO_BOARD)
@@ -50,7 +50,7 @@ fn lay_all(
     ceiling: u32,
 ) -> Laid
     ensures { ended_of result
-        ≡ cut ceiling (calls_from (lent_task words.entry lengths.entry columns.entry calls.entry) 0 no_plan) }
+        ≡ cut ceiling (calls_from (lent_task words.now lengths.now columns.now calls.now) 0 no_plan) }
 {
     let mut plan = [255u8; 32];
     let mut left = (ceiling as u64) + 1;
@@ -86,7 +86,7 @@ pub fn lay_plan(
     requires rows_len { length rows.now ≡ rows_length }
     requires slots_len { length slots.now ≡ slots_length }
     ensures { ended_of result
-        ≡ cut ceiling (search_all (memory_task (plan_parts counts.entry arity.entry scope.entry lengths.entry rows.entry slots.entry))) }
+        ≡ cut ceiling (search_all (memory_task (plan_parts counts.now arity.now scope.now lengths.now rows.now slots.now))) }
 {
     let columns = rule_columns(arity, scope, slots);
     let calls = calls_of(counts, slots, &columns);

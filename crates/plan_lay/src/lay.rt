@@ -48,7 +48,7 @@ pub fn lay_calls(
     requires left_nonzero { 0 < left.old }
     requires call_bound { call ≤ 32 }
     ensures { StepEnded
-        (calls_from (lent_task words.entry lengths.entry columns.entry calls.entry) call plan.old)
+        (calls_from (lent_task words.now lengths.now columns.now calls.now) call plan.old)
         left.old left.new plan.old plan.new result }
 {
     if 32 <= call {
@@ -85,7 +85,7 @@ fn lay_slots(
     requires call_bound { call < 32 }
     requires slot_bound { slot ≤ 32 }
     ensures { StepEnded
-        (tries_from (lent_task words.entry lengths.entry columns.entry calls.entry) call slot plan.old)
+        (tries_from (lent_task words.now lengths.now columns.now calls.now) call slot plan.old)
         left.old left.new (set plan.old call no_slot_given) plan.new (ending_at result left.new) }
 {
     let s = next_open(calls[32 + call], slot);
@@ -118,7 +118,7 @@ fn lay_slot(
     requires call_bound { call < 32 }
     requires slot_bound { slot < 32 }
     ensures { StepEnded
-        (after 1 (behind_slot (lent_task words.entry lengths.entry columns.entry calls.entry) call slot plan.old))
+        (after 1 (behind_slot (lent_task words.now lengths.now columns.now calls.now) call slot plan.old))
         left.old left.new (set plan.old call slot) plan.new result }
 {
     *left = *left - 1;

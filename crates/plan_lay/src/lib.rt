@@ -19,7 +19,7 @@ pub fn first_plan(
     slots: &[u8],
     ceiling: u32,
 ) -> PlanAnswer
-    ensures { FirstPromise (memory value rows.entry killers.entry slots.entry) ceiling result }
+    ensures { FirstPromise (memory value rows.now killers.now slots.now) ceiling result }
 {
     let counts = value.heads.counts;
     let arity = value.heads.arity;

@@ -1,4 +1,3 @@
 pub mod Plans
 pub mod Check
 pub mod Samples
-pub mod Laws

@@ -2,4 +2,3 @@ pub mod Search
 pub mod First
 pub mod Moves
 pub mod Samples
-pub mod Laws

@@ -16,7 +16,7 @@ pub const WORDS: usize = 4096;
 
 // How many slots each call has in a plan: 0 for one that is not to be laid.
 pub fn call_slots(counts: &[u8; 32], slots: &[u8]) -> [u8; 32]
-    ensures { CallSlots (call_parts counts.entry slots.entry) result }
+    ensures { CallSlots (call_parts counts.now slots.now) result }
 {
     let mut calls = [0u8; 32];
     let mut c = 0;

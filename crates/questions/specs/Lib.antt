@@ -1,4 +1,3 @@
 pub mod Parts
 pub mod Mask
 pub mod RowPart
-pub mod Laws

@@ -17,7 +17,7 @@ use model::answer::{OpenSlots, RowState, SlotState, Support};
 
 // The mask of a call's open slots, with the number of its ones.
 pub fn open_slots(value: Value, rows: &[u8], killers: &[u8], slots: &[u8], call: u8) -> OpenSlots
-    ensures { SlotsPromise (memory value rows.entry killers.entry slots.entry) call result }
+    ensures { SlotsPromise (memory value rows.now killers.now slots.now) call result }
 {
     let counts = value.heads.counts;
     let refusal = call_refusal(&counts, rows, killers, slots, call);
@@ -37,7 +37,7 @@ pub fn slot_state(
     call: u8,
     slot: u8,
 ) -> SlotState
-    ensures { StatePromise (memory value rows.entry killers.entry slots.entry) call slot result }
+    ensures { StatePromise (memory value rows.now killers.now slots.now) call slot result }
 {
     let counts = value.heads.counts;
     let refusal = slot_refusal(&counts, rows, killers, slots, call, slot);
@@ -65,7 +65,7 @@ pub fn row_state(
     rule: u8,
     row: u8,
 ) -> RowState
-    ensures { RowPromise (memory value rows.entry killers.entry slots.entry) rule row result }
+    ensures { RowPromise (memory value rows.now killers.now slots.now) rule row result }
 {
     let counts = value.heads.counts;
     let arity = value.heads.arity;
@@ -91,7 +91,7 @@ pub fn row_bytes<'a>(
     rule: u8,
     row: u8,
 ) -> &'a [u8]
-    ensures { RowPart value rows.entry killers.entry slots.entry rule row result }
+    ensures { RowPart value rows.entry killers.now slots.now rule row result }
 {
     let counts = value.heads.counts;
     let arity = value.heads.arity;
@@ -114,7 +114,7 @@ pub fn support(
     column: u8,
     slot: u8,
 ) -> Support
-    ensures { SupportPromise (memory value rows.entry killers.entry slots.entry) rule column slot result }
+    ensures { SupportPromise (memory value rows.now killers.now slots.now) rule column slot result }
 {
     let counts = value.heads.counts;
     let arity = value.heads.arity;

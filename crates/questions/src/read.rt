@@ -49,7 +49,7 @@ pub fn open_mask(slots: &[u8], call: u8) -> u32
 // Row w of the rule is alive and holds the slot in the column.
 fn supports(rows: &[u8], killers: &[u8], rule: usize, w: usize, column: usize, slot: u8) -> bool
     requires { Searchable rows.now killers.now rule (w + 1) column }
-    ensures { result ≡ supports? (search_parts rows.entry killers.entry) rule column slot w }
+    ensures { result ≡ supports? (search_parts rows.now killers.now) rule column slot w }
 {
     killers[64 * rule + w] == 255 && rows[256 * rule + 4 * w + column] == slot
 }
@@ -64,7 +64,7 @@ fn supporting_row(
     slot: u8,
 ) -> usize
     requires { Searchable rows.now killers.now rule m column }
-    ensures { result ≡ first m (supports? (search_parts rows.entry killers.entry) rule column slot) }
+    ensures { result ≡ first m (supports? (search_parts rows.now killers.now) rule column slot) }
 {
     let mut w = 0;
     while w < m {
@@ -86,7 +86,7 @@ pub fn lowest_support(
     slot: u8,
 ) -> Support
     requires { Searchable rows.now killers.now rule (rows_of lengths.now rule) column }
-    ensures { result ≡ active_support (length_parts lengths.entry rows.entry killers.entry) rule column slot }
+    ensures { result ≡ active_support (length_parts lengths.now rows.now killers.now) rule column slot }
 {
     let held = rows_of(lengths, rule);
     let row = supporting_row(rows, killers, rule as usize, held, column as usize, slot);

@@ -16,7 +16,7 @@ use model::refusal::{
 // A call (5.1).
 pub fn call_refusal(counts: &[u8; 32], rows: &[u8], killers: &[u8], slots: &[u8], call: u8) -> u8
     ensures { result
-        ≡ first_of (call_checks (call_parts counts.entry rows.entry killers.entry slots.entry) call) }
+        ≡ first_of (call_checks (call_parts counts.now rows.now killers.now slots.now) call) }
 {
     let n = or_refuse(0, bad_lengths(rows, killers, slots), BUFFER_LENGTH);
     let n = or_refuse(n, counts[0] == 0, NO_BOARD);
@@ -33,7 +33,7 @@ pub fn slot_refusal(
     slot: u8,
 ) -> u8
     ensures { result
-        ≡ first_of (slot_checks (call_parts counts.entry rows.entry killers.entry slots.entry) call slot) }
+        ≡ first_of (slot_checks (call_parts counts.now rows.now killers.now slots.now) call slot) }
 {
     let n = call_refusal(counts, rows, killers, slots, call);
     or_refuse(n, byte_at(counts, call as usize) <= slot, NO_SLOT)
@@ -49,7 +49,7 @@ fn rule_refusal(
     rule: u8,
 ) -> u8
     ensures { result
-        ≡ first_of (rule_checks (rule_parts counts.entry arity.entry rows.entry killers.entry slots.entry) rule) }
+        ≡ first_of (rule_checks (rule_parts counts.now arity.now rows.now killers.now slots.now) rule) }
 {
     let n = or_refuse(0, bad_lengths(rows, killers, slots), BUFFER_LENGTH);
     let n = or_refuse(n, counts[0] == 0, NO_BOARD);
@@ -69,7 +69,7 @@ pub fn row_refusal(
     row: u8,
 ) -> u8
     ensures { result
-        ≡ first_of (row_checks (row_parts counts.entry arity.entry lengths.entry rows.entry killers.entry slots.entry) rule row) }
+        ≡ first_of (row_checks (row_parts counts.now arity.now lengths.now rows.now killers.now slots.now) rule row) }
 {
     let n = rule_refusal(counts, arity, rows, killers, slots, rule);
     or_refuse(n, rows_of(lengths, rule) <= row as usize, NO_ROW)
@@ -88,7 +88,7 @@ pub fn support_refusal(
     slot: u8,
 ) -> u8
     ensures { result
-        ≡ first_of (support_checks (support_parts counts.entry arity.entry scope.entry rows.entry killers.entry slots.entry) rule column slot) }
+        ≡ first_of (support_checks (support_parts counts.now arity.now scope.now rows.now killers.now slots.now) rule column slot) }
 {
     let n = rule_refusal(counts, arity, rows, killers, slots, rule);
     let columns = columns_of(arity, rule);

@@ -47,12 +47,12 @@ fn advance_command(
     slots: &mut [u8],
     marks: &mut [u8],
 ) -> Progress
-    requires held { Held (marked_memory progress.value names rows killers slots marks) }
+    requires held { Held (marked_memory progress.value names.old rows.old killers.old slots.old marks.old) }
     requires room { Room progress.written line_most out.old }
     ensures { CommandAdvanced
         command decoded progress
-        (marked_memory progress.value names.entry rows.entry killers.entry slots.entry marks.entry) out.old result
-        (marked_memory result.value names.exit rows.exit killers.exit slots.exit marks.exit) out.new }
+        (marked_memory progress.value names.old rows.old killers.old slots.old marks.old) out.old result
+        (marked_memory result.value names.new rows.new killers.new slots.new marks.new) out.new }
 {
     let value = progress.value;
     let counts = decoded.counts;
@@ -79,12 +79,12 @@ pub fn advance(
     slots: &mut [u8],
     marks: &mut [u8],
 ) -> Progress
-    requires held { Held (marked_memory progress.value names rows killers slots marks) }
+    requires held { Held (marked_memory progress.value names.old rows.old killers.old slots.old marks.old) }
     requires room { Room progress.written line_most out.old }
     ensures { Advanced
         (read_at input.now progress.read) (length input.now) progress
-        (marked_memory progress.value names.entry rows.entry killers.entry slots.entry marks.entry) out.old result
-        (marked_memory result.value names.exit rows.exit killers.exit slots.exit marks.exit) out.new }
+        (marked_memory progress.value names.old rows.old killers.old slots.old marks.old) out.old result
+        (marked_memory result.value names.new rows.new killers.new slots.new marks.new) out.new }
 {
     let decoded = command_decode::decode(input, progress.read);
     let found = decoded.read;

@@ -41,7 +41,7 @@ fn fresh_lines(
     marks: &mut [u8],
 ) -> usize
     requires fits { Fits input.now out.old }
-    requires represents_marked { RepresentsMarked fresh (marked_memory value names rows killers slots marks) }
+    requires represents_marked { RepresentsMarked fresh (marked_memory value names.old rows.old killers.old slots.old marks.old) }
     ensures { Lined (file_lines input.now) out.old out.new result }
 {
     let mut progress = Progress {

@@ -4,4 +4,3 @@ pub mod Digits
 pub mod Lines
 pub mod Calls
 pub mod Lengths
-pub mod Laws

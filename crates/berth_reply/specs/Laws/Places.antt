@@ -4,7 +4,7 @@ use Rattle.std.proofs.Common.{ap, ◌∙◌, arith, length-take, length-drop}
 use Rattle.model.specs.Questions.{row_checks, bytes_by, RowBytesPromise}
 use Rattle.berth_reply.specs.Replies.{place_reply, PlaceReplied}
 use Rattle.layout.specs.Memory.{State}
-use Rattle.questions.specs.Laws.Bounds.{row_bounds}
+use Rattle.questions.proofs.Laws.Bounds.{row_bounds}
 use Rattle.berth_reply.specs.Places.{row_place_reply}
 use Rattle.model.specs.Refusals.{first_of}
 

@@ -7,12 +7,12 @@ use Rattle.model.specs.Records.{Open, Struck, Caused, KillerIn, Ring, NoRing, Es
 use Rattle.model.specs.Ledger.{Member, fresh, run}
 use Rattle.model.specs.Report.{slot_count, open?}
 use Rattle.model.specs.Summary.{Current, open_total, open_sum}
-use Rattle.model.specs.Laws.Theory as theory
+use Rattle.model.proofs.Laws.Theory as theory
 use Rattle.model.specs.Lists.{After}
-use Rattle.model.specs.Laws.Lists.{demand_3, demand_3_two, runs_represent}
-use Rattle.model.specs.Laws.Summary.{absent_zero, cancelled_zero, total_of_records, total_of_bytes}
-use Rattle.model.specs.Laws.Cancelled.{cancelled_byte_lem}
-use Rattle.model.specs.Laws.Change.{byte_on}
+use Rattle.model.proofs.Laws.Lists.{demand_3, demand_3_two, runs_represent}
+use Rattle.model.proofs.Laws.Summary.{absent_zero, cancelled_zero, total_of_records, total_of_bytes}
+use Rattle.model.proofs.Laws.Cancelled.{cancelled_byte_lem}
+use Rattle.model.proofs.Laws.Change.{byte_on}
 use Rattle.layout.specs.Places.{cause_of, killer_of, cancelled_byte}
 use Rattle.layout.specs.Summary.{no_summary}
 use Rattle.layout.specs.Sizes.{records_length}
@@ -22,13 +22,13 @@ use Rattle.plan_model.specs.declared.answer.PlanCheck.{PlanCheck}
 use Rattle.plan_model.specs.declared.answer.PlanCheck.TheVariants as plan
 use Rattle.plan_model.specs.Plans.{slot_in}
 use Rattle.plan_model.specs.Check.{plan_conditions, LowestBroken, PlanPromise}
-use Rattle.plan_model.specs.Laws.Kept.{kept_exactly, struck_broken}
+use Rattle.plan_model.proofs.Laws.Kept.{kept_exactly, struck_broken}
 use Rattle.model.specs.Questions.{board_conditions}
 use Rattle.plan_search.specs.declared.answer.FirstPlan.TheVariants as searched
 use Rattle.plan_search.specs.declared.answer.PlanAnswer.{PlanAnswer}
 use Rattle.plan_search.specs.First.{board_task, search_all, trials, FoundFirst, FirstPromise}
-use Rattle.plan_search.specs.Laws.Exactly.{found_exactly, none_exactly, stopped_exactly, found_is_first}
-use Rattle.plan_search.specs.Laws.Checked.{found_kept}
+use Rattle.plan_search.proofs.Laws.Exactly.{found_exactly, none_exactly, stopped_exactly, found_is_first}
+use Rattle.plan_search.proofs.Laws.Checked.{found_kept}
 use Rattle.board.specs.Lists.{board_after}
 
 -- FOR EVERY LIST OF COMMANDS

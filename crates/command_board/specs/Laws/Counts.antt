@@ -5,8 +5,8 @@ use Rattle.std.proofs.Common.{true≢false, inl, inr, ⊎_elim, add-one, arith, 
 use Rattle.std.proofs.Math.ListN.{get_or-eq_default}
 use Rattle.model.specs.Tests.{some?}
 use Rattle.model.specs.Ledger.{bad_counts?, up_to_zero}
-use Rattle.model.specs.Laws.Tests.{or_false, or→, →or, and→, →and, →some, none_passes, →T, T→, →eqb}
-use Rattle.model.specs.Laws.Search.{NoneBelow, none_start, none_more}
+use Rattle.model.proofs.Laws.Tests.{or_false, or→, →or, and→, →and, →some, none_passes, →T, T→, →eqb}
+use Rattle.model.proofs.Laws.Search.{NoneBelow, none_start, none_more}
 use Rattle.command_board.specs.Made.{bad_count?}
 use Rattle.tables.specs.Laws.Facts.{true_false, lt_or_le}
 

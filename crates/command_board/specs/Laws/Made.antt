@@ -6,9 +6,9 @@ use Rattle.model.specs.declared.command.Command.TheVariants as kind
 use Rattle.model.specs.Board.{OnBoard, Shape}
 use Rattle.model.specs.Ledger.{bare, fresh, bad_counts?, up_to_zero, effect}
 use Rattle.model.specs.Representation.{Represents}
-use Rattle.model.specs.Laws.Shapes.{effect_shape, shape_fresh}
-use Rattle.model.specs.Laws.Change.{on_range}
-use Rattle.model.specs.Laws.Fresh.{bare_headed, bare_stored, fresh_represents}
+use Rattle.model.proofs.Laws.Shapes.{effect_shape, shape_fresh}
+use Rattle.model.proofs.Laws.Change.{on_range}
+use Rattle.model.proofs.Laws.Fresh.{bare_headed, bare_stored, fresh_represents}
 use Rattle.command_board.specs.Made.{slot_byte, BuffersCleared, bare_value, MakesBoard}
 use Rattle.command_board.specs.Laws.Counts.{counts_kept}
 use Rattle.layout.specs.Places.{cause_of}

@@ -15,8 +15,8 @@ use Rattle.model.specs.Promise.{MemoryPromise, Promise}
 use Rattle.model.specs.Lists.{Runs, done, then, Entered, After}
 use Rattle.model.specs.Sheet.{input_most}
 use Rattle.model.specs.Numbers as refused
-use Rattle.model.specs.Laws.Lists.{is_lengths, runs_represent}
-use Rattle.model.specs.Laws.Summary.{current_one}
+use Rattle.model.proofs.Laws.Lists.{is_lengths, runs_represent}
+use Rattle.model.proofs.Laws.Summary.{current_one}
 use Rattle.summary_counts.specs.Counted.{Counted, counted_record}
 use Rattle.summary_counts.specs.Laws.Counted.{counted_current}
 use Rattle.layout.specs.declared.value.Value.{Value}

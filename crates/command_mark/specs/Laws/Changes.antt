@@ -2,13 +2,13 @@
 use Rattle.std.specs.Prelude.{◌≡◌, refl, Bool, true, false, ◌&&◌, List, ℕ, ◌+◌, ◌-◌, ◌/◌, ◌%◌, ◌≤◌, length, get_or, take, drop, eqb, ltb}
 use Rattle.std.proofs.Common.{ap, ◌∙◌, arith, length-take, length-drop}
 use Rattle.model.specs.Report.{open?, struck?, struck_between, reopened_between}
-use Rattle.model.specs.Laws.Tests.{count_same}
+use Rattle.model.proofs.Laws.Tests.{count_same}
 use Rattle.layout.specs.Marks.{part_from}
 use Rattle.layout.specs.Sizes.{slots_length}
 use Rattle.command_mark.specs.declared.changes.Changes.{Changes}
 use Rattle.command_mark.specs.Changes.{Between, Few}
 use Rattle.command_mark.specs.Laws.Copy.{part_width}
-use Rattle.model.specs.Laws.Counts.{open_place, struck_place, changes_few}
+use Rattle.model.proofs.Laws.Counts.{open_place, struck_place, changes_few}
 
 pub closed_place : (before after : List ℕ) (i : ℕ)
     → eqb (get_or before i 0) 255 && ltb (get_or after i 0) 64 ≡ open? before (i / 32) (i % 32) && struck? after (i / 32) (i % 32)

@@ -21,12 +21,12 @@ use Rattle.model.specs.Marks.{MarkHeld, RepresentsMarked, kept_as, state_back, b
 use Rattle.model.specs.Refusals.{first_of, or_else}
 use Rattle.model.specs.Promise.{accepted_with}
 use Rattle.model.specs.Representation.{Represents}
-use Rattle.model.specs.Laws.Fresh.{fresh_represents}
-use Rattle.model.specs.Laws.Heads.{no_calls}
-use Rattle.model.specs.Laws.Marks.{stored_sizes, headed_sized, keep_kept, other_held}
-use Rattle.model.specs.Laws.Promised.{marked_refused, marked_accepted}
-use Rattle.model.specs.Laws.Refusals.{none_holds, chain_first, chain_append}
-use Rattle.model.specs.Laws.Refusals as refusals
+use Rattle.model.proofs.Laws.Fresh.{fresh_represents}
+use Rattle.model.proofs.Laws.Heads.{no_calls}
+use Rattle.model.proofs.Laws.Marks.{stored_sizes, headed_sized, keep_kept, other_held}
+use Rattle.model.proofs.Laws.Promised.{marked_refused, marked_accepted}
+use Rattle.model.proofs.Laws.Refusals.{none_holds, chain_first, chain_append}
+use Rattle.model.proofs.Laws.Refusals as refusals
 use Rattle.model.specs.Numbers as refused
 use Rattle.command_mark.specs.Checks.{keep_checks, kept_byte, back_checks}
 use Rattle.command_mark.specs.declared.changes.Changes.{Changes}

@@ -3,7 +3,7 @@ use Rattle.std.specs.Prelude.{List, ℕ}
 use Rattle.model.specs.declared.answer.Answer.{Answer}
 use Rattle.model.specs.Promise.{Promise}
 use Rattle.model.specs.Lists.{whole_lending, Entered}
-use Rattle.model.specs.Laws.Members.{entered_own}
+use Rattle.model.proofs.Laws.Members.{entered_own}
 use Rattle.layout.specs.Memory.{Whole, lent_with}
 
 pub entered_by : (s : Whole) (bytes : List ℕ) (given : Answer) (after : Whole) → Promise s bytes given after → Entered (record { bytes = bytes; lent = lent_with s }) s after

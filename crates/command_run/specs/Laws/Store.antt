@@ -8,8 +8,8 @@ use Rattle.model.specs.Ledger.{Ledger, LedgerShape, lengths}
 use Rattle.model.specs.Promise.{number_of, MemoryPromise, Promise}
 use Rattle.model.specs.Representation.{Represents}
 use Rattle.model.specs.Summary.{Current}
-use Rattle.model.specs.Laws.Entry.{refused_lengths, refused_table, refused_whole}
-use Rattle.model.specs.Laws.Shapes.{lent_sizes, marks_size}
+use Rattle.model.proofs.Laws.Entry.{refused_lengths, refused_table, refused_whole}
+use Rattle.model.proofs.Laws.Shapes.{lent_sizes, marks_size}
 use Rattle.model.specs.Numbers as refused
 use Rattle.layout.specs.declared.summary.Summary.{Summary}
 use Rattle.layout.specs.Summary.{no_table, replaced}

@@ -11,9 +11,9 @@ use Rattle.filter_propagate.specs.Steps.{Propagated}
 use Rattle.filter_relax.specs.Spread.{is_visited, CallMask, Adds}
 use Rattle.filter_relax.specs.Seed.{Seeding}
 use Rattle.filter_relax.specs.Relaxed.{Relaxed}
-use Rattle.filter_relax.specs.Laws.Seed.{adds_masked, seeding, seed_empty}
-use Rattle.filter_relax.specs.Laws.Reopen.{zero_none}
-use Rattle.filter_relax.specs.Laws.Relaxed.{relaxed_from}
+use Rattle.filter_relax.proofs.Laws.Seed.{adds_masked, seeding, seed_empty}
+use Rattle.filter_relax.proofs.Laws.Reopen.{zero_none}
+use Rattle.filter_relax.proofs.Laws.Relaxed.{relaxed_from}
 use Rattle.layout.specs.Bounds.{Sizes}
 use Rattle.layout.specs.Places.{cause_of}
 use Rattle.filter_cancel.specs.Done.{OwnStruck, Withdrawn, Beside, StruckWithout, OthersCounted, CancelQuiet, CancelReworked}

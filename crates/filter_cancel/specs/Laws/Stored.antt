@@ -13,19 +13,19 @@ use Rattle.model.specs.Records.{Struck, Sound}
 use Rattle.model.specs.Changes.{Weaker, Seeds, OwnSlot}
 use Rattle.model.specs.Ledger.{cancel_call}
 use Rattle.model.specs.Representation.{rule_at, Headed, off_byte, Stored}
-use Rattle.model.specs.Laws.Tests.{and→, →and, and_false, →T, T→, →eqb, same_test, count_none}
-use Rattle.model.specs.Laws.Reports.{slots_same}
-use Rattle.model.specs.Laws.Touched.{smallest_none}
-use Rattle.model.specs.Laws.Theory.{on_live, on_count, live_not}
-use Rattle.model.specs.Laws.Shapes.{shape_cancelled}
-use Rattle.model.specs.Laws.Change.{on_range, byte_on, off_limits, on_weaker, cancelled_itself, cancel_live, cancel_weaker, cancel_seeds}
+use Rattle.model.proofs.Laws.Tests.{and→, →and, and_false, →T, T→, →eqb, same_test, count_none}
+use Rattle.model.proofs.Laws.Reports.{slots_same}
+use Rattle.model.proofs.Laws.Touched.{smallest_none}
+use Rattle.model.proofs.Laws.Theory.{on_live, on_count, live_not}
+use Rattle.model.proofs.Laws.Shapes.{shape_cancelled}
+use Rattle.model.proofs.Laws.Change.{on_range, byte_on, off_limits, on_weaker, cancelled_itself, cancel_live, cancel_weaker, cancel_seeds}
 use Rattle.filter_propagate.specs.Rules.{RuleBytes, reached}
 use Rattle.filter_support.specs.Strikes.{is_open, is_struck}
 use Rattle.filter_propagate.specs.Stable.{StableBytes}
 use Rattle.filter_propagate.specs.Queue.{IsFlagged}
 use Rattle.filter_propagate.specs.Laws.Kept.{steps_slots, propagated_lost}
 use Rattle.filter_relax.specs.Relaxed.{Relaxed}
-use Rattle.filter_relax.specs.Laws.Relaxed.{stays_stable}
+use Rattle.filter_relax.proofs.Laws.Relaxed.{stays_stable}
 use Rattle.filter_meaning.specs.Rules.{RulesOf, bytes_in}
 use Rattle.filter_meaning.specs.Working.{Working}
 use Rattle.filter_meaning.specs.Relaxing.{visited_test}

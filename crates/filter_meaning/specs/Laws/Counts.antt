@@ -5,7 +5,7 @@ use Rattle.tables.specs.Count.{bit, count}
 use Rattle.tables.specs.Lost.{lost, SameOrLost, OnlyLost}
 use Rattle.model.specs.Tests.{count_below}
 use Rattle.model.specs.Report.{slot_count, struck_between, reopened_between, struck_in}
-use Rattle.model.specs.Laws.Tests.{and→, not→, count_same, count_none}
+use Rattle.model.proofs.Laws.Tests.{and→, not→, count_same, count_none}
 use Rattle.filter_support.specs.Strikes.{is_open, is_struck}
 use Rattle.layout.specs.Places.{cause_of}
 use Rattle.tables.specs.Laws.Lost.{lost_back}

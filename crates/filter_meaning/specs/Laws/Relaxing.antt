@@ -9,17 +9,17 @@ use Rattle.model.specs.Records.{Struck, KillerIn, RingAt, Sound, Recorded}
 use Rattle.model.specs.Changes.{Weaker, Seeds, ClosedFor, Smallest, Reopens}
 use Rattle.model.specs.Report.{struck_between}
 use Rattle.model.specs.Representation.{rule_at, off_byte, Stored}
-use Rattle.model.specs.Laws.Tests.{T?, and→, →and, →T, T→}
-use Rattle.model.specs.Laws.Theory.{live_not, not_live, on_live, active_below, below_active, rings_empty}
-use Rattle.model.specs.Laws.Change.{number_below, on_range, byte_on, off_limits, weaker_viable, reopen_sound}
+use Rattle.model.proofs.Laws.Tests.{T?, and→, →and, →T, T→}
+use Rattle.model.proofs.Laws.Theory.{live_not, not_live, on_live, active_below, below_active, rings_empty}
+use Rattle.model.proofs.Laws.Change.{number_below, on_range, byte_on, off_limits, weaker_viable, reopen_sound}
 use Rattle.filter_propagate.specs.Rules.{RuleBytes}
 use Rattle.filter_propagate.specs.Queue.{IsFlagged}
 use Rattle.filter_support.specs.Strikes.{is_open, is_struck}
 use Rattle.filter_relax.specs.Reach.{seed, joins}
 use Rattle.filter_relax.specs.Touched.{NoOwnKill, Justifies, Touched}
 use Rattle.filter_relax.specs.Relaxed.{Relaxed}
-use Rattle.filter_relax.specs.Laws.Reach.{reach_in}
-use Rattle.filter_relax.specs.Laws.Relaxed.{touched_struck}
+use Rattle.filter_relax.proofs.Laws.Reach.{reach_in}
+use Rattle.filter_relax.proofs.Laws.Relaxed.{touched_struck}
 use Rattle.layout.specs.Places.{row_cell, rows_of, cause_of, killer_of, slot_place}
 use Rattle.layout.specs.Sizes.{slots_length}
 use Rattle.tables.specs.Laws.Facts.{true_or_false, true_false, lt_or_le}

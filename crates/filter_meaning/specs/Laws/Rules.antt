@@ -7,7 +7,7 @@ use Rattle.std.proofs.Math.ListN.{length}
 use Rattle.layout.specs.declared.value.Heads.{Heads}
 use Rattle.model.specs.Board.{Rule, Board, call_at, slot_at, InForce, GoodRule, Shape}
 use Rattle.model.specs.Representation.{rule_or, rule_at, Headed, RowBytes}
-use Rattle.model.specs.Laws.Change.{number_below}
+use Rattle.model.proofs.Laws.Change.{number_below}
 use Rattle.filter_propagate.specs.Rules.{RuleBytes, Distinct}
 use Rattle.layout.specs.Places.{columns_of, call_of, slot_of, row_cell}
 use Rattle.tables.specs.Laws.Facts.{lt_or_le}

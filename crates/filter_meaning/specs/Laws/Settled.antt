@@ -6,8 +6,8 @@ use Rattle.layout.specs.declared.value.Heads.{Heads}
 use Rattle.model.specs.Board.{Rule, Board, call_at, slot_at, OnBoard, InForce, Holds, Shape}
 use Rattle.model.specs.Records.{Open, Sound, Recorded}
 use Rattle.model.specs.Representation.{Headed, off_byte, Stored}
-use Rattle.model.specs.Laws.Theory.{on_live, active_below, below_active, open_viable}
-use Rattle.model.specs.Laws.Change.{stable_recorded, on_range, byte_on, row_on_board, recorded_stable}
+use Rattle.model.proofs.Laws.Theory.{on_live, active_below, below_active, open_viable}
+use Rattle.model.proofs.Laws.Change.{stable_recorded, on_range, byte_on, row_on_board, recorded_stable}
 use Rattle.filter_propagate.specs.Rules.{RuleBytes, Progress, reached}
 use Rattle.filter_propagate.specs.Queue.{Idle}
 use Rattle.filter_propagate.specs.Stable.{StableBytes}

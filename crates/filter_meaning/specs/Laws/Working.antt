@@ -6,8 +6,8 @@ use Rattle.tables.specs.Assign.{Below}
 use Rattle.model.specs.Board.{Rule, Board, call_at, slot_at, OnBoard, InForce, InScope, Holds, Shape}
 use Rattle.model.specs.Records.{Struck, KillerIn, Sound}
 use Rattle.model.specs.Representation.{rule_or, rule_at, off_byte}
-use Rattle.model.specs.Laws.Theory.{on_live, active_below, below_active}
-use Rattle.model.specs.Laws.Change.{strike_sound, kill_sound, on_range, off_limits, byte_on}
+use Rattle.model.proofs.Laws.Theory.{on_live, active_below, below_active}
+use Rattle.model.proofs.Laws.Change.{strike_sound, kill_sound, on_range, off_limits, byte_on}
 use Rattle.filter_propagate.specs.Rules.{RuleBytes, Progress}
 use Rattle.filter_support.specs.Rows.{Unsupported}
 use Rattle.filter_support.specs.Strikes.{ColumnWith}

@@ -10,10 +10,10 @@ use Rattle.model.specs.Records.{Struck, KillerIn, Sound}
 use Rattle.model.specs.Ledger.{with_rule}
 use Rattle.model.specs.Report.{struck_between, reopened_between}
 use Rattle.model.specs.Representation.{rule_or, rule_at, RuleHeld, Stored}
-use Rattle.model.specs.Laws.Tests.{none_some}
-use Rattle.model.specs.Laws.Theory.{active_same}
-use Rattle.model.specs.Laws.Change.{keep_grounded}
-use Rattle.model.specs.Laws.Shapes.{shape_with}
+use Rattle.model.proofs.Laws.Tests.{none_some}
+use Rattle.model.proofs.Laws.Theory.{active_same}
+use Rattle.model.proofs.Laws.Change.{keep_grounded}
+use Rattle.model.proofs.Laws.Shapes.{shape_with}
 use Rattle.filter_propagate.specs.Rules.{RuleBytes, reached}
 use Rattle.filter_meaning.specs.Rules.{bytes_in}
 use Rattle.filter_meaning.specs.Working.{Working}

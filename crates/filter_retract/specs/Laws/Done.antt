@@ -13,8 +13,8 @@ use Rattle.filter_relax.specs.Relaxed.{Relaxed}
 use Rattle.layout.specs.Bounds.{Sizes}
 use Rattle.layout.specs.Places.{columns_of}
 use Rattle.masks.specs.Laws.Rules.{flags_without, dropped_rules}
-use Rattle.filter_relax.specs.Laws.Seed.{seeding, seed_empty}
-use Rattle.filter_relax.specs.Laws.Relaxed.{relaxed_from}
+use Rattle.filter_relax.proofs.Laws.Seed.{seeding, seed_empty}
+use Rattle.filter_relax.proofs.Laws.Relaxed.{relaxed_from}
 use Rattle.filter_retract.specs.Done.{RuleCleared, CausedBy, StruckAgain, Quiet, Reworked}
 
 -- visited among none, the slots whose cause is p are the seed of its retraction

@@ -13,12 +13,12 @@ use Rattle.model.specs.Records.{Struck, Sound, Recorded}
 use Rattle.model.specs.Changes.{Weaker, Seeds, CauseIs}
 use Rattle.model.specs.Ledger.{with_rule}
 use Rattle.model.specs.Representation.{rule_at, Headed, off_byte, Stored}
-use Rattle.model.specs.Laws.Tests.{none_some, count_none}
-use Rattle.model.specs.Laws.Theory.{active_below, struck_caused}
-use Rattle.model.specs.Laws.Shapes.{shape_with}
-use Rattle.model.specs.Laws.Fresh.{empty_held}
-use Rattle.model.specs.Laws.Touched.{smallest_none}
-use Rattle.model.specs.Laws.Change.{on_range, byte_on, retracted_from, retract_weaker, retract_seeds}
+use Rattle.model.proofs.Laws.Tests.{none_some, count_none}
+use Rattle.model.proofs.Laws.Theory.{active_below, struck_caused}
+use Rattle.model.proofs.Laws.Shapes.{shape_with}
+use Rattle.model.proofs.Laws.Fresh.{empty_held}
+use Rattle.model.proofs.Laws.Touched.{smallest_none}
+use Rattle.model.proofs.Laws.Change.{on_range, byte_on, retracted_from, retract_weaker, retract_seeds}
 use Rattle.filter_propagate.specs.Rules.{RuleBytes, reached}
 use Rattle.filter_support.specs.Strikes.{is_open, is_struck}
 use Rattle.filter_propagate.specs.Stable.{StableBytes}
@@ -27,7 +27,7 @@ use Rattle.filter_propagate.specs.Laws.Stable.{stable_keep}
 use Rattle.filter_support.specs.Laws.Strikes.{open_not_struck}
 use Rattle.filter_propagate.specs.Laws.Kept.{steps_slots, propagated_lost}
 use Rattle.filter_relax.specs.Relaxed.{Relaxed}
-use Rattle.filter_relax.specs.Laws.Relaxed.{stays_stable}
+use Rattle.filter_relax.proofs.Laws.Relaxed.{stays_stable}
 use Rattle.filter_meaning.specs.Rules.{RulesOf, bytes_in}
 use Rattle.filter_meaning.specs.Working.{Working}
 use Rattle.filter_meaning.specs.Relaxing.{visited_test}

@@ -10,15 +10,15 @@ use Rattle.layout.specs.Sizes.{rows_length}
 use Rattle.model.specs.Tests.{some?}
 use Rattle.model.specs.Refusals.{first_of}
 use Rattle.model.specs.Numbers as refused
-use Rattle.model.specs.Laws.Refusals.{none_holds, refused_by}
-use Rattle.model.specs.Laws.Shapes.{lent_sizes}
-use Rattle.model.specs.Laws.Tests.{→T}
-use Rattle.model.specs.Laws.Search.{NoneBelow}
-use Rattle.model.specs.Laws.Questions.{first_found, first_none}
+use Rattle.model.proofs.Laws.Refusals.{none_holds, refused_by}
+use Rattle.model.proofs.Laws.Shapes.{lent_sizes}
+use Rattle.model.proofs.Laws.Tests.{→T}
+use Rattle.model.proofs.Laws.Search.{NoneBelow}
+use Rattle.model.proofs.Laws.Questions.{first_found, first_none}
 use Rattle.plan_model.specs.declared.answer.PlanCheck.TheVariants as plan
 use Rattle.plan_model.specs.Plans.{plan_size, slot_in, RulesRead, rules_in, breaks?, lowest_broken}
 use Rattle.plan_model.specs.Check.{wrong_byte?, wrong_plan?, plan_checks, plan_by, PlanPromise}
-use Rattle.plan_model.specs.Laws.Check.{plan_promise}
+use Rattle.plan_model.proofs.Laws.Check.{plan_promise}
 
 module _ (s : State) (bytes : List ℕ) {n : ℕ} (e : n ≡ first_of (plan_checks s bytes)) where
   pub plan_refused : n ≢ 0 → PlanPromise s bytes (plan.Refused n)

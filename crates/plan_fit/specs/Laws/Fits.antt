@@ -13,8 +13,8 @@ use Rattle.layout.specs.Places.{columns_of, call_of, cancelled?, row_start}
 use Rattle.layout.specs.Memory.{State}
 use Rattle.masks.specs.Columns.{word_at}
 use Rattle.model.specs.Tests.{some?}
-use Rattle.model.specs.Laws.Tests.{and→, or→, →or, →T, T→, not→, same_test, →eqb, none_passes, some→, every→, →every}
-use Rattle.model.specs.Laws.Search.{some_same}
+use Rattle.model.proofs.Laws.Tests.{and→, or→, →or, →T, T→, not→, same_test, →eqb, none_passes, some→, every→, →every}
+use Rattle.model.proofs.Laws.Search.{some_same}
 use Rattle.plan_model.specs.Plans.{plan_size, RulesRead, rules_in, slot_in, fits?, fitted?, binds?, breaks?}
 use Rattle.plan_fit.specs.Words.{column_call, ColumnCalls, mask_byte, plan_byte, IsWord, row_matches?}
 use Rattle.plan_fit.specs.Laws.Words.{word_of, Bytes, masked_by, byte_small, same_bytes, same_word, and_word}

@@ -3,8 +3,8 @@ use Rattle.std.specs.Prelude.{◌≡◌, refl, Bool, true, false, ◌||◌, ◌�
 use Rattle.std.proofs.Common.{sym, ◌∙◌, ⊎_elim, arith}
 use Rattle.tables.specs.Laws.Facts.{true_false, lt_or_le, eq_or_ne}
 use Rattle.model.specs.Tests.{some?}
-use Rattle.model.specs.Laws.Tests.{→T, T→, →some, none_passes}
-use Rattle.model.specs.Laws.Search.{NoneBelow, none_all}
+use Rattle.model.proofs.Laws.Tests.{→T, T→, →some, none_passes}
+use Rattle.model.proofs.Laws.Search.{NoneBelow, none_all}
 use Rattle.plan_fit.specs.Words.{SomeBetween}
 
 -- ONE NUMBER MORE

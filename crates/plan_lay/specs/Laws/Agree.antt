@@ -18,16 +18,16 @@ use Rattle.masks.specs.Laws.Columns.{four}
 use Rattle.model.specs.Board.{no_slot_given}
 use Rattle.model.specs.Tests.{some?, every?}
 use Rattle.model.specs.Report.{open?}
-use Rattle.model.specs.Laws.Tests.{and→, →and, or→, →or, →T, T→, same_test, →eqb, T?, some→, →some, every→, →every}
-use Rattle.model.specs.Laws.Search.{some_same, every_same}
+use Rattle.model.proofs.Laws.Tests.{and→, →and, or→, →or, →T, T→, same_test, →eqb, T?, some→, →some, every→, →every}
+use Rattle.model.proofs.Laws.Search.{some_same, every_same}
 use Rattle.plan_model.specs.Plans.{RulesRead, rules_in, slot_in, fits?, fitted?}
 use Rattle.plan_fit.specs.Words.{mask_byte, plan_byte, IsWord, row_matches?}
 use Rattle.plan_fit.specs.Laws.Fits.{matched_fitted}
 use Rattle.plan_search.specs.Search.{Task, laid?, due?, stays?}
 use Rattle.plan_search.specs.First.{no_plan, memory_task, search_all}
-use Rattle.plan_search.specs.Laws.Search.{search_same}
-use Rattle.plan_search.specs.Laws.Stays.{not_laid, slot_laid}
-use Rattle.plan_search.specs.Laws.Full.{no_slot}
+use Rattle.plan_search.proofs.Laws.Search.{search_same}
+use Rattle.plan_search.proofs.Laws.Stays.{not_laid, slot_laid}
+use Rattle.plan_search.proofs.Laws.Full.{no_slot}
 use Rattle.plan_tables.specs.Lookup.{CallSlots, RuleColumns, columns_at, mask_by, RowWords}
 use Rattle.plan_tables.specs.Due.{rule_stage, DueRules}
 use Rattle.plan_lay.specs.Lay.{table_task, CallsOf, calls_from}

@@ -8,12 +8,12 @@ use Rattle.layout.specs.Sizes.{rows_length, slots_length}
 use Rattle.model.specs.Refusals.{first_of}
 use Rattle.model.specs.Questions.{board_checks}
 use Rattle.model.specs.Numbers as refused
-use Rattle.model.specs.Laws.Refusals.{none_holds, refused_by}
-use Rattle.model.specs.Laws.Shapes.{lent_sizes}
+use Rattle.model.proofs.Laws.Refusals.{none_holds, refused_by}
+use Rattle.model.proofs.Laws.Shapes.{lent_sizes}
 use Rattle.plan_search.specs.declared.answer.FirstPlan.TheVariants as first
 use Rattle.plan_search.specs.Search.{Task}
 use Rattle.plan_search.specs.First.{no_plan, memory_task, search_all, Ended, cut, ended_answer, first_by, FirstPromise}
-use Rattle.plan_search.specs.Laws.First.{first_promise}
+use Rattle.plan_search.proofs.Laws.First.{first_promise}
 use Rattle.plan_lay.specs.declared.first.Laid.{Laid}
 use Rattle.plan_lay.specs.declared.lay.Ending.{Ending}
 use Rattle.plan_lay.specs.declared.lay.Ending.TheVariants as ending

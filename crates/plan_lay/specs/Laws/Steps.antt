@@ -12,7 +12,7 @@ use Rattle.model.specs.Board.{no_slot_given}
 use Rattle.tables.specs.Laws.Masks.{bit_zero, bit_above, lowest, has_below}
 use Rattle.plan_search.specs.Search.{Result, found, nothing, after, or_next, Task}
 use Rattle.plan_search.specs.First.{Clear, Ended, full, none, stopped, cut}
-use Rattle.plan_search.specs.Laws.Search.{tries_end, tries_closed, tries_open, search_end, search_skips, search_lays, tries_set, clear_away, goes_on?, later, cut_later, cut_over, cut_first, cut_on}
+use Rattle.plan_search.proofs.Laws.Search.{tries_end, tries_closed, tries_open, search_end, search_skips, search_lays, tries_set, clear_away, goes_on?, later, cut_later, cut_over, cut_first, cut_on}
 use Rattle.plan_lay.specs.declared.lay.Ending.{Ending}
 use Rattle.plan_lay.specs.declared.lay.Ending.TheVariants as ending
 use Rattle.plan_lay.specs.Lay.{NextOpen, calls_from, tries_from, behind_slot, ended_with, ending_at, StepEnded}

@@ -10,7 +10,7 @@ use Rattle.tables.specs.Laws.Facts.{eq_or_ne}
 use Rattle.tables.specs.Laws.Left.{Left, Removed, left_all, left_lowest, left_more, taken_only, taken_all}
 use Rattle.layout.specs.Places.{rows_of}
 use Rattle.model.specs.Tests.{some?, every?}
-use Rattle.model.specs.Laws.Tests.{→T, T→, not→, →or, every→, →every}
+use Rattle.model.proofs.Laws.Tests.{→T, T→, not→, →or, every→, →every}
 use Rattle.plan_fit.specs.Words.{plan_byte, IsWord}
 use Rattle.plan_tables.specs.Lookup.{columns_at}
 use Rattle.plan_tables.specs.Fit.{wanted_by, fitted_by, stays_by}

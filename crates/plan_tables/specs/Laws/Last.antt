@@ -6,7 +6,7 @@ use native.Mathlib.Omega.{arith}
 use Rattle.tables.specs.Laws.Facts.{true_false, true_or_false, eq_or_ne, lt_or_le}
 use Rattle.layout.specs.Memory.{State}
 use Rattle.masks.specs.Laws.Columns.{four}
-use Rattle.model.specs.Laws.Tests.{T→, not→}
+use Rattle.model.proofs.Laws.Tests.{T→, not→}
 use Rattle.plan_model.specs.Plans.{RulesRead, rules_in}
 use Rattle.plan_fit.specs.Words.{column_call}
 use Rattle.plan_fit.specs.Laws.Fits.{call_past, call_off, call_here}

@@ -14,14 +14,14 @@ use Rattle.model.specs.declared.command.Decoded.{Decoded}
 use Rattle.model.specs.Commands.{is_kind, body_size, command_at, counts_at, without, read_at}
 use Rattle.model.specs.Ledger.{Ledger, LedgerShape, kind_conditions, obey}
 use Rattle.model.specs.Sheet.{refused_line, file_refusal, up_to_refusal, reads_from, lines_from}
-use Rattle.model.specs.Laws.Shapes.{effect_shape, counts_most}
+use Rattle.model.proofs.Laws.Shapes.{effect_shape, counts_most}
 use Rattle.command_obey.specs.Obeys.{Obeys}
 use Rattle.sheet.specs.declared.advance.Progress.{Progress}
 use Rattle.sheet.specs.Line.{ShortAnswer, LineAppended}
 use Rattle.sheet.specs.Advance.{ledger_next, line_of, place_by, next_place, Held, CommandAdvanced, Advanced}
 use Rattle.sheet.specs.Laws.Answers.{answer_line_lem, answer_short}
 use Rattle.layout.specs.Memory.{MarkedState}
-use Rattle.sheet_lines.specs.Laws.Append.{append_none, append_same}
+use Rattle.sheet_lines.proofs.Laws.Append.{append_none, append_same}
 use Rattle.model.specs.Refusals.{first_of}
 
 -- nothing is read at the end

@@ -15,9 +15,9 @@ use Rattle.model.specs.Representation.{Represents}
 use Rattle.model.specs.Marks.{RepresentsMarked}
 use Rattle.model.specs.Promise.{number_of, values_of, values_at, report_values, ObeyedMarked}
 use Rattle.model.specs.Sheet.{accepted_line, decision_line}
-use Rattle.model.specs.Laws.Answers.{refused_by, accepted_by}
-use Rattle.model.specs.Laws.Counts.{changes_few}
-use Rattle.model.specs.Laws.Reports.{struck_between_lem, reopened_between_lem}
+use Rattle.model.proofs.Laws.Answers.{refused_by, accepted_by}
+use Rattle.model.proofs.Laws.Counts.{changes_few}
+use Rattle.model.proofs.Laws.Reports.{struck_between_lem, reopened_between_lem}
 use Rattle.sheet.specs.Line.{answer_line, ShortAnswer}
 use Rattle.layout.specs.Memory.{State, MarkedState}
 use Rattle.layout.specs.Sizes.{slots_length}

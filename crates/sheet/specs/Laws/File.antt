@@ -11,7 +11,7 @@ use Rattle.model.specs.Ledger.{fresh, up_to_zero}
 use Rattle.model.specs.Marks.{RepresentsMarked}
 use Rattle.model.specs.Report.{slot_count, open?}
 use Rattle.model.specs.Sheet.{total_line, reads_from, lines_from}
-use Rattle.model.specs.Laws.Shapes.{shape_fresh}
+use Rattle.model.proofs.Laws.Shapes.{shape_fresh}
 use Rattle.sheet_lines.specs.Append.{Room, Appended}
 use Rattle.sheet_lines.specs.Joined.{joined}
 use Rattle.sheet_lines.specs.Calls.{slot_line}
@@ -21,9 +21,9 @@ use Rattle.sheet.specs.File.{file_lines, counted_lines, Fits, Lined, Reached}
 use Rattle.sheet.specs.Laws.Advance.{reads_end, advance_lines, advance_further, advance_shape}
 use Rattle.layout.specs.Memory.{MarkedState}
 use Rattle.layout.specs.Sizes.{slots_length}
-use Rattle.sheet_lines.specs.Laws.Append.{append_none, append_more, append_same, room_less, room_after}
-use Rattle.sheet_lines.specs.Laws.Counts.{counted_lines_lem, count_most}
-use Rattle.sheet_lines.specs.Laws.Lengths.{call_lines_most_lem, whole_most}
+use Rattle.sheet_lines.proofs.Laws.Append.{append_none, append_more, append_same, room_less, room_after}
+use Rattle.sheet_lines.proofs.Laws.Counts.{counted_lines_lem, count_most}
+use Rattle.sheet_lines.proofs.Laws.Lengths.{call_lines_most_lem, whole_most}
 use Rattle.sheet_lines.specs.Lengths.{board_lines_most, line_most, decimal_end}
 
 -- A NUMBER OF SLOTS has a decimal: there are no more than 1,024

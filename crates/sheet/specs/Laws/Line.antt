@@ -10,8 +10,8 @@ use Rattle.model.specs.Commands.{kind_of}
 use Rattle.model.specs.Sheet.{accepted_line, refused_line}
 use Rattle.sheet_lines.specs.Append.{Room, Appended}
 use Rattle.sheet.specs.Line.{answer_line, ShortAnswer, LineAppended, Wide}
-use Rattle.sheet_lines.specs.Laws.Append.{room_less, append_same}
-use Rattle.sheet_lines.specs.Laws.Lengths.{accepted_most, refused_most}
+use Rattle.sheet_lines.proofs.Laws.Append.{room_less, append_same}
+use Rattle.sheet_lines.proofs.Laws.Lengths.{accepted_most, refused_most}
 use Rattle.sheet_lines.specs.Lengths.{decimal_end, line_most}
 
 -- a short line that is appended, whose bytes may be put in other words

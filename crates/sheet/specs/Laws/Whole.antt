@@ -10,7 +10,7 @@ use Rattle.sheet.specs.declared.answer.Sheet.TheVariants as answer
 use Rattle.sheet.specs.Promise.{sheet_number, sheet_values, SheetPromise}
 use Rattle.sheet.specs.Line.{LineAppended}
 use Rattle.sheet.specs.File.{file_lines, input_lines, Lined}
-use Rattle.sheet_lines.specs.Laws.Append.{append_more}
+use Rattle.sheet_lines.proofs.Laws.Append.{append_more}
 use Rattle.sheet.specs.Bounds.{sheet_most}
 use Rattle.model.specs.Numbers as refused
 

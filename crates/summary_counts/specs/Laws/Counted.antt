@@ -12,12 +12,12 @@ use Rattle.model.specs.Ledger.{Ledger, LedgerShape}
 use Rattle.model.specs.Report.{open?, closed?}
 use Rattle.model.specs.Representation.{rule_at, Represents}
 use Rattle.model.specs.Summary.{rule_on?, record_of, Current}
-use Rattle.model.specs.Laws.Tests.{and→, →and, some→, →some, →eqb, same_test, count_same, count_bound, count_once, count_rest, count_row, has→, →has}
-use Rattle.model.specs.Laws.Filter.{found_viable}
-use Rattle.model.specs.Laws.Reports.{open_in}
-use Rattle.model.specs.Laws.Cancelled.{first_held}
-use Rattle.model.specs.Laws.Heads.{no_call_lem}
-use Rattle.model.specs.Laws.Summary.{column_in, calls_differ, absent_zero}
+use Rattle.model.proofs.Laws.Tests.{and→, →and, some→, →some, →eqb, same_test, count_same, count_bound, count_once, count_rest, count_row, has→, →has}
+use Rattle.model.proofs.Laws.Filter.{found_viable}
+use Rattle.model.proofs.Laws.Reports.{open_in}
+use Rattle.model.proofs.Laws.Cancelled.{first_held}
+use Rattle.model.proofs.Laws.Heads.{no_call_lem}
+use Rattle.model.proofs.Laws.Summary.{column_in, calls_differ, absent_zero}
 use Rattle.tables.specs.Laws.Facts.{lt_or_le}
 use Rattle.layout.specs.Places.{call_of}
 use Rattle.layout.specs.Memory.{State}

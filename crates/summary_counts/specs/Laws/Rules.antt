@@ -6,7 +6,7 @@ use Rattle.std.specs.Int.{w32}
 use Rattle.tables.specs.Laws.Facts.{eq_or_ne}
 use Rattle.layout.specs.Places.{call_of}
 use Rattle.model.specs.Tests.{count_below}
-use Rattle.model.specs.Laws.Tests.{count_bound, count_row}
+use Rattle.model.proofs.Laws.Tests.{count_bound, count_row}
 use Rattle.summary_counts.specs.Counted.{column_on?, columns_on}
 use Rattle.summary_counts.specs.Rules.{AtMost, ColumnAdded, ColumnsAdded, ColumnsTo}
 

@@ -1,5 +1,4 @@
 -- All bytes are cleared, then one name is written after the other.
-use borrow.Author.Rules.{rules}
 use Rattle.layout.specs.Laws.Names.{forgotten}
 use Rattle.layout.proofs.names.forget.Goals as goal
 

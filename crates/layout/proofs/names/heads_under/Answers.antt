@@ -1,5 +1,4 @@
 -- Field by field.
-use borrow.Author.Rules.{rules}
 use Rattle.layout.proofs.names.heads_under.Goals as goal
 
 pub returns : goal.returns

@@ -1,12 +1,8 @@
 -- Each round reads the next byte; after the last all are read.
-use mathlib.Core.Path.{refl}
 use Prim.Native.Nat.{◌+◌, ◌≤◌, ◌-◌}
-use native.Mathlib.Omega.{arith}
 use lib.ListN.{length, get_or}
-use Rattle.tables.specs.Laws.Fill.{FilledTo, filled_none, filled_more, filled_at}
+use Rattle.tables.specs.Laws.Fill.{FilledTo}
 use Rattle.layout.specs.Names.{names_length}
-use Rattle.layout.specs.Laws.Names.{listed_is}
-use borrow.Author.Rules.{rules}
 use Rattle.layout.proofs.names.load.Given as goal
 
 abbrev pub invariant-loop-i : goal.invariant-loop-i

@@ -2,8 +2,7 @@
 use mathlib.Core.Path.{refl, sym}
 use native.Mathlib.Omega.{arith}
 use Rattle.tables.specs.Laws.Masks.{shl_one}
-use Rattle.masks.specs.Laws.Rules.{inserted_none, inserted_one}
-use borrow.Author.Rules.{rules}
+use Rattle.masks.specs.Laws.Rules.{inserted_one}
 use Rattle.masks.proofs.rules.add_column.Goals as goal
 
 pub returns-then-k-n : goal.returns-then-k-n

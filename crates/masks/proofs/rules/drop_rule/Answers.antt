@@ -1,10 +1,7 @@
 -- Each entry loses the rule in its round.
-use Prim.Native.Nat.{◌-◌, ◌≤◌}
 use native.Mathlib.Omega.{arith}
-use Rattle.tables.specs.Sweep.{Swept}
-use Rattle.tables.specs.Laws.Sweep.{swept_none, swept_at}
-use Rattle.masks.specs.Laws.Rules.{Leaves, leaves_more, dropped}
-use borrow.Author.Rules.{rules}
+use Rattle.tables.specs.Laws.Sweep.{swept_at}
+use Rattle.masks.specs.Laws.Rules.{dropped}
 use Rattle.masks.proofs.rules.drop_rule.Goals as goal
 
 pub returns : goal.returns

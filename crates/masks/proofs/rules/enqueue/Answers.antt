@@ -1,7 +1,6 @@
 -- The rules on the calls join the pending ones, and rule p leaves.
 use native.Mathlib.Omega.{arith}
 use Rattle.masks.specs.Laws.Rules.{enqueues}
-use borrow.Author.Rules.{rules}
 use Rattle.masks.proofs.rules.enqueue.Goals as goal
 
 pub returns : goal.returns

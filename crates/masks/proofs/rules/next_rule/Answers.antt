@@ -1,9 +1,5 @@
 -- The lowest bit above p is a pending rule; where there is none, the lowest of all.
-use native.Mathlib.Omega.{arith}
-use lib.Count.{trailing_le}
-use Prim.Native.Nat.{◌/◌, ◌^◌}
 use Rattle.masks.specs.Laws.Rules.{next_lowest, next_above}
-use borrow.Author.Rules.{rules}
 use Rattle.masks.proofs.rules.next_rule.Goals as goal
 
 pub returns-then-above-ne0 : goal.returns-then-above-ne0

@@ -1,7 +1,6 @@
 -- A shift of 1 by less than 64 loses nothing, and its complement lacks one bit.
 use Rattle.tables.specs.Laws.Masks.{shl_one}
 use Rattle.masks.specs.Laws.Rules.{without_power}
-use borrow.Author.Rules.{rules}
 use Rattle.masks.proofs.rules.without.Goals as goal
 
 pub returns : goal.returns

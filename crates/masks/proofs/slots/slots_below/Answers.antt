@@ -1,11 +1,7 @@
 -- One slot more is in the mask with each round.
-use Prim.Native.Nat.{ℕ, ◌+◌, ◌*◌, ◌-◌, ◌≤◌, ◌<◌}
 use native.Mathlib.Omega.{arith}
-use lib.ListN.{get_or}
-use Rattle.tables.specs.Masks.{IsMask}
-use Rattle.tables.specs.Laws.Masks.{mask_none, mask_at}
+use Rattle.tables.specs.Laws.Masks.{mask_none}
 use Rattle.masks.specs.Laws.Slots.{slots_more}
-use borrow.Author.Rules.{rules}
 use Rattle.masks.proofs.slots.slots_below.Goals as goal
 
 pub loop-s-init : goal.loop-s-init

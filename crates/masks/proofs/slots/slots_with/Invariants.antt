@@ -1,12 +1,8 @@
 -- One slot more is in the mask with each round.
 use mathlib.Core.Path.{◌≡◌}
 use Prim.Native.Nat.{ℕ, ◌+◌, ◌*◌, ◌-◌, ◌≤◌}
-use native.Mathlib.Omega.{arith}
 use lib.ListN.{get_or}
 use Rattle.tables.specs.Masks.{IsMask}
-use Rattle.tables.specs.Laws.Masks.{mask_none, mask_at}
-use Rattle.masks.specs.Laws.Slots.{slots_more}
-use borrow.Author.Rules.{rules}
 use Rattle.masks.proofs.slots.slots_with.Given as goal
 
 abbrev pub invariant-loop-s : goal.invariant-loop-s

@@ -1,0 +1,15 @@
+-- The loop has passed no bad count, and `ended` says whether a 0 is among those that it passed.
+use mathlib.Core.Path.{sym, ◌∙◌}
+use Prim.Native.Nat.{◌≤◌, ◌-◌}
+use native.Mathlib.Omega.{arith}
+use Rattle.command_board.specs.Laws.Counts.{GoodSoFar, good_none, good_more, good_all, bad_found}
+use borrow.Author.Rules.{rules}
+use Rattle.command_board.proofs.new_board.bad_counts.Goals as goal
+
+pub returns-then-bad_count : goal.returns-then-bad_count
+returns-then-bad_count c =
+    sym (bad_found _ c.loop-j.j c.loop-j.ended c.loop-j.invariant.1 (omega arith) (sym c.bad_count.ensures ∙ c.if-bad_count.true))
+
+pub returns : goal.returns
+returns c =
+    sym (good_all _ c.loop-j.j c.loop-j.ended c.loop-j.invariant.1 (omega arith))

@@ -1,0 +1,10 @@
+-- Bad counts change nothing; others make a board of them on any memory.
+use mathlib.Core.Path.{sym, ◌∙◌}
+use Rattle.command_board.specs.Laws.Made.{makes_new, makes_nothing}
+use borrow.Author.Rules.{rules}
+use Rattle.command_board.proofs.new_board.make_board.Goals as goal
+
+pub returns : goal.returns
+returns c =
+    rw (c.accepted.ensures, c.bare_value-new.ensures)
+    (makes_new _ c.well_formed.1.0.1.0.1 (sym c.bad_counts.ensures ∙ c.if-bad_counts.false) _ _ _ c.clear.ensures _)

@@ -1,0 +1,15 @@
+-- The loop has found no cancelled call among those that it passed.
+use mathlib.Core.Path.{sym, ◌∙◌}
+use Prim.Native.Nat.{◌≤◌, ◌-◌}
+use native.Mathlib.Omega.{arith}
+use lib.ListN.{get_or}
+use Rattle.layout.specs.Places.{cancelled?}
+use Rattle.model.proofs.Laws.Search.{NoneBelow, none_start, none_more, none_found, some_found}
+use Rattle.tables.specs.Laws.Facts.{any_default}
+use borrow.Author.Rules.{rules}
+use Rattle.command_draft.proofs.fields.call_cancelled.Goals as goal
+
+pub returns-then-is_cancelled : goal.returns-then-is_cancelled
+returns-then-is_cancelled c =
+    let same = any_default 255 0 c.args.scope.now c.loop-k.k (omega arith) in
+    some_found c.loop-k.invariant.1 c.args.n (omega arith) (rw same (sym c.is_cancelled.ensures ∙ c.if-is_cancelled.true))

@@ -1,0 +1,16 @@
+-- One slot more is counted with each round.
+use mathlib.Core.Path.{◌∙◌, ap}
+use mathlib.Core.Bool.{Bool, cond, ◌&&◌}
+use Prim.Native.Nat.{◌-◌, ◌/◌, ◌%◌, ◌≤◌}
+use native.Mathlib.Omega.{arith}
+use borrow.Author.Rules.{rules}
+use Rattle.model.specs.Report.{open?, struck?}
+use Rattle.model.proofs.Laws.Counts.{CountTo, count_to_none, count_to_more, count_to_at}
+use Rattle.command_mark.specs.Laws.Changes.{closed_place}
+use Rattle.command_mark.proofs.changes.count_struck.Given as goal
+
+abbrev pub invariant-loop-i : goal.invariant-loop-i
+invariant-loop-i l = (l.i ≤ 1024) × CountTo (λ j. open? l.before (j / 32) (j % 32) && struck? l.after (j / 32) (j % 32)) l.i l.n
+
+abbrev pub decreases-loop-i : goal.decreases-loop-i
+decreases-loop-i l = 1024 - l.i

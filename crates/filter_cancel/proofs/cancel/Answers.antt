@@ -1,0 +1,13 @@
+-- A call with a struck slot is cancelled with what its slots touched; one without has none in its seed, and is only withdrawn.
+use mathlib.Core.Logic.{inl, inr}
+use Rattle.filter_cancel.specs.Laws.Done.{struck_seeding, quiet}
+use borrow.Author.Rules.{rules}
+use Rattle.filter_cancel.proofs.cancel.Goals as goal
+
+pub returns-then-calls-eq0 : goal.returns-then-calls-eq0
+returns-then-calls-eq0 c =
+    inl (quiet c.args.slots.now c.args.c c.slots_below-mask.ensures c.visit_call-calls.ensures c.if-calls-eq0.true c.withdraw.ensures)
+
+pub cancel_struck-requires : goal.cancel_struck-requires
+cancel_struck-requires c =
+    record { sizes = c.requires.sizes; c_bound = c.requires.c_bound; n_bound = c.requires.n_bound; seeding = struck_seeding c.args.slots.now c.args.c c.slots_below-mask.ensures c.visit_call-calls.ensures }

@@ -1,0 +1,18 @@
+-- The loop has reached only touched slots, and where it ends every rule is settled; what is unsettled falls with each step.
+use native.Mathlib.Omega.{arith}
+use borrow.Author.Rules.{rules}
+use Rattle.tables.specs.Masks.{flags_of, all_flags}
+use Rattle.masks.specs.Rules.{NextRule}
+use Rattle.filter_propagate.specs.Rules.{bytes_of}
+use Rattle.filter_relax.specs.Closure.{traversal, unsettled}
+use Rattle.filter_relax.proofs.Laws.Closure.{Closing, closing_none, closing_more, closing_size, closed}
+use Rattle.filter_relax.proofs.closure.close.Given as goal
+
+abbrev pub invariant-loop-q : goal.invariant-loop-q
+invariant-loop-q l =
+    NextRule l.front.pending l.q
+    × Closing (bytes_of l.rows l.arity l.scope l.lengths) l.killers l.slots (all_flags 32 l.initial.visited) (traversal (all_flags 32 l.visited) (flags_of 32 l.front.calls) (flags_of 64 l.front.pending))
+
+abbrev pub decreases-loop-q : goal.decreases-loop-q
+decreases-loop-q l =
+    unsettled (traversal (all_flags 32 l.visited) (flags_of 32 l.front.calls) (flags_of 64 l.front.pending))

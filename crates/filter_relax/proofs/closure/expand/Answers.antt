@@ -1,0 +1,8 @@
+-- The scan says which calls have a new slot, and so which rules become pending.
+use Rattle.filter_propagate.specs.Rules.{rules_in}
+use Rattle.filter_relax.proofs.Laws.Closure.{expanded}
+use Rattle.filter_relax.proofs.closure.expand.Goals as goal
+
+pub returns : goal.returns
+returns c =
+    expanded (rules_in c.args.rows.now c.args.arity.now c.args.scope.now c.args.lengths.now) _ _ _ _ _ _ c.requires.rules_on c.requires.q_bound c.requires.has c.requires.visited_len c.scan_rule-changed.ensures c.enqueue.ensures

@@ -1,0 +1,8 @@
+-- The slots with the cause q, without those that are visited.
+use native.Mathlib.Omega.{arith}
+use Rattle.filter_relax.proofs.Laws.Scan.{column_wanted}
+use borrow.Author.Rules.{rules}
+use Rattle.filter_relax.proofs.scan.column_wanted.Goals as goal
+
+pub returns-then-k-n : goal.returns-then-k-n
+returns-then-k-n c = column_wanted _ _ _ _ _ _ (omega arith) (omega (arith, c.set_difference.type_inv)) c.slots_with.ensures c.set_difference.ensures

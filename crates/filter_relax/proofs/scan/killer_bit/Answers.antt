@@ -1,0 +1,12 @@
+-- At most one of the four sets is not empty, that of the killer's column.
+use Rattle.filter_relax.proofs.Laws.Scan.{killer_bits}
+use borrow.Author.Rules.{rules}
+use Rattle.filter_relax.proofs.scan.killer_bit.Goals as goal
+
+pub returns : goal.returns
+returns c =
+    killer_bits _ _ _
+    c.where_killer.ensures
+    c.where_killer-2.ensures
+    c.where_killer-3.ensures
+    c.where_killer-4.ensures

@@ -1,0 +1,8 @@
+-- What the rule touched reopens, the rule is cleared, and propagation follows: `reworked` joins them.
+use Rattle.filter_relax.proofs.Laws.Relaxed.{relaxed_sizes}
+use Rattle.filter_retract.specs.Laws.Done.{reworked}
+use borrow.Author.Rules.{rules}
+use Rattle.filter_retract.proofs.retract_struck.Goals as goal
+
+pub returns : goal.returns
+returns c = reworked c.requires.seeding c.relax-relaxed.ensures c.strike_again-again.ensures c.difference.ensures

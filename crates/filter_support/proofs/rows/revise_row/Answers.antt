@@ -1,0 +1,9 @@
+-- The row's slots, its killer, and what is found with it.
+use native.Mathlib.Omega.{arith}
+use Rattle.filter_support.specs.Laws.Walk.{row_walked}
+use borrow.Author.Rules.{rules}
+use Rattle.filter_support.proofs.rows.revise_row.Goals as goal
+
+pub returns : goal.returns
+returns c =
+    row_walked _ _ _ _ _ _ _ _ c.row_slots-row.ensures c.first_meeting-first.ensures c.killer_now-now.ensures c.with_row.ensures (omega arith)

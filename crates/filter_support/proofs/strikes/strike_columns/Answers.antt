@@ -1,0 +1,22 @@
+-- One column more is treated in each turn, and its call joins the mask exactly where a slot of it was struck. Each turn keeps what is known.
+use Prim.Native.Nat.{◌≤◌, ◌-◌}
+use native.Mathlib.Omega.{arith}
+use Rattle.filter_support.specs.Strikes.{NotIn, ColumnsStruck}
+use Rattle.filter_support.specs.Known.{StillKnown}
+use Rattle.filter_support.specs.Laws.Strikes.{strikes_fit, columns_none, columns_more, columns_at_lem}
+use Rattle.filter_support.specs.Laws.Known.{known_some, known_still, still_none, still_more}
+use borrow.Author.Rules.{rules}
+use Rattle.filter_support.proofs.strikes.strike_columns.Goals as goal
+
+pub loop-k-init : goal.loop-k-init
+loop-k-init c = (omega arith, columns_none _ _ _ _, still_none _ _ _)
+
+pub overflow_add-number : goal.overflow_add-number
+overflow_add-number c = omega (arith, strikes_fit _ _ _ c.loop-k.invariant.1.strikes c.strike_call-d.ensures.slots_struck)
+
+pub loop-k-preserved : goal.loop-k-preserved
+loop-k-preserved c =
+    let i = c.loop-k.invariant in
+    let call = c.strike_call-d.ensures in
+    let struck = rw c.column-held.ensures at call.slots_struck in
+    (omega arith, columns_more _ _ _ (omega arith) i.1 struck c.with_call-calls.ensures, still_more i.2 call.still_known)

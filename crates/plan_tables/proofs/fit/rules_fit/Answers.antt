@@ -1,0 +1,23 @@
+-- The rules that are taken out of the mask fit.
+use mathlib.Core.Path.{sym, ◌∙◌}
+use Prim.Native.Nat.{◌-◌, ◌<◌}
+use native.Mathlib.Omega.{arith}
+use lib.Bits.{and_le_r}
+use lib.Count.{count_trailing_zeros}
+use Rattle.tables.specs.Laws.Left.{left_lowest}
+use Rattle.plan_tables.specs.Laws.Fit.{FitSoFar, fit_start, fit_more, fit_all, fit_fails}
+use borrow.Author.Tests.{not-true, not-false}
+use borrow.Author.Rules.{rules}
+use Rattle.plan_tables.proofs.fit.rules_fit.Goals as goal
+
+pub returns-then-not-rule_fits : goal.returns-then-not-rule_fits
+returns-then-not-rule_fits c =
+    fit_fails _ _ _ _ c.loop-left-test.true c.loop-left.invariant (sym c.rule_fits.ensures ∙ c.if-not-rule_fits.true)
+
+pub loop-left-preserved : goal.loop-left-preserved
+loop-left-preserved c =
+    fit_more _ _ _ _ c.loop-left-test.true c.loop-left.invariant
+    (sym c.rule_fits.ensures ∙ c.if-not-rule_fits.false)
+
+pub returns : goal.returns
+returns c = fit_all _ _ _ _ c.loop-left-test.false c.loop-left.invariant

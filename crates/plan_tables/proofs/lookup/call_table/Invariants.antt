@@ -1,0 +1,14 @@
+-- The calls before c have their entries.
+use mathlib.Core.Path.{◌≡◌, refl, ◌∙◌}
+use Prim.Native.Nat.{◌-◌, ◌≤◌}
+use native.Mathlib.Omega.{arith}
+use Rattle.plan_tables.specs.Lookup.{CallTable}
+use Rattle.plan_tables.specs.Laws.Lookup.{table_none, table_more}
+use borrow.Author.Rules.{rules}
+use Rattle.plan_tables.proofs.lookup.call_table.Given as goal
+
+abbrev pub invariant-loop-c : goal.invariant-loop-c
+invariant-loop-c l = (l.c ≤ 32) × CallTable l.due l.opened l.held l.c l.table
+
+abbrev pub decreases-loop-c : goal.decreases-loop-c
+decreases-loop-c l = 32 - l.c

@@ -1,0 +1,12 @@
+-- The rules before p have their words.
+use mathlib.Core.Path.{◌≡◌}
+use Prim.Native.Nat.{◌-◌, ◌≤◌}
+use native.Mathlib.Omega.{arith}
+use Rattle.plan_tables.specs.Lookup.{RowWords}
+use Rattle.plan_tables.specs.Laws.Lookup.{all_none, all_more}
+use borrow.Author.Rules.{rules}
+use Rattle.plan_tables.proofs.lookup.row_words.Goals as goal
+
+pub loop-p-preserved : goal.loop-p-preserved
+loop-p-preserved c =
+    (omega arith, all_more _ _ _ c.loop-p.invariant.1 c.cap-held.ensures (rw (← c.columns_at.ensures) c.column_mask-mask.ensures) c.rule_words.ensures)

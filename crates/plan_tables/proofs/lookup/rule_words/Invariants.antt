@@ -1,0 +1,14 @@
+-- The rows before w are words.
+use mathlib.Core.Path.{◌≡◌, refl}
+use Prim.Native.Nat.{◌-◌, ◌≤◌}
+use native.Mathlib.Omega.{arith}
+use Rattle.plan_tables.specs.Lookup.{WordsMade}
+use Rattle.plan_tables.specs.Laws.Lookup.{words_none, words_more}
+use borrow.Author.Rules.{rules}
+use Rattle.plan_tables.proofs.lookup.rule_words.Given as goal
+
+abbrev pub invariant-loop-w : goal.invariant-loop-w
+invariant-loop-w l = (l.w ≤ l.held) × WordsMade l.rows l.p l.mask l.w l.initial.words l.words
+
+abbrev pub decreases-loop-w : goal.decreases-loop-w
+decreases-loop-w l = l.held - l.w

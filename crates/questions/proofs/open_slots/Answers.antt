@@ -1,0 +1,13 @@
+-- The call's refusal is the answer's; where there is none, the mask is the definition's, and its ones are the open slots.
+use borrow.Author.Rules.{rules}
+use Rattle.layout.specs.Memory.{State, state_of}
+use Rattle.questions.proofs.Laws.Answers.{slots_refused, slots_given}
+use Rattle.questions.proofs.open_slots.Goals as goal
+
+pub returns-then-refusal-ne0 : goal.returns-then-refusal-ne0
+returns-then-refusal-ne0 c =
+    slots_refused (state_of c.args.value c.args.rows.now c.args.killers.now c.args.slots.now) c.args.call c.call_refusal-refusal.ensures c.if-refusal-ne0.true
+
+pub returns : goal.returns
+returns c =
+    slots_given (state_of c.args.value c.args.rows.now c.args.killers.now c.args.slots.now) c.args.call c.call_refusal-refusal.ensures c.if-refusal-ne0.false c.open_mask-mask.ensures

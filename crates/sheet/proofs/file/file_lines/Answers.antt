@@ -1,0 +1,10 @@
+-- The arrays and the value are the fresh state's.
+use borrow.Author.Rules.{rules}
+use Rattle.layout.specs.Laws.Memory.{filled}
+use Rattle.layout.specs.Sizes.{marks_length}
+use Rattle.model.proofs.Laws.Fresh.{fresh_marked_lem}
+use Rattle.sheet.proofs.file.file_lines.Goals as goal
+
+pub fresh_lines-requires : goal.fresh_lines-requires
+fresh_lines-requires c =
+    record { fits = c.requires; represents_marked = rw c.fresh-held.ensures (fresh_marked_lem _ (filled marks_length 0).size) }

@@ -1,0 +1,17 @@
+-- The loop keeps what `Reached` says: what is written and what is left to be written are all of the lines. A round reads on, so the measure falls.
+use mathlib.Core.Path.{refl, sym, ◌∙◌}
+use Prim.Native.Nat.{◌-◌}
+use native.Mathlib.Omega.{arith}
+use lib.ListN.{length}
+use borrow.Author.Rules.{rules}
+use Rattle.sheet.specs.File.{Reached}
+use Rattle.sheet.specs.Laws.File.{reached_start, reached_held, reads_on, reached_advance, advance_room, board_room, reached_end}
+use Rattle.layout.specs.Memory.{state_of, marked_of}
+use Rattle.sheet.proofs.file.fresh_lines.Given as goal
+
+abbrev pub invariant-loop-progress : goal.invariant-loop-progress
+invariant-loop-progress l =
+    Reached l.input l.progress (marked_of (state_of l.progress.value l.rows l.killers l.slots) l.names l.marks) l.initial.out l.out
+
+abbrev pub decreases-loop-progress : goal.decreases-loop-progress
+decreases-loop-progress l = length l.input - l.progress.read
