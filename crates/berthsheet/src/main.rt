@@ -41,6 +41,7 @@ fn main(rt: HostRuntime) -> ExitCode {
         Err(why) => return failed(&rt, "standard input", why),
     };
     let answer = sheet::sheet(&input[..n], &mut out);
+    // the buffer is as long as the longest sheet, so that none is refused
     let Sheet::Written(m) = answer else {
         return ExitCode::FAILURE;
     };
