@@ -1,0 +1,24 @@
+-- The loop keeps what `TakenTo` says: what was entered and what is left are all of the file. A round reads on, so the measure falls.
+use mathlib.Core.Path.{◌≡◌, refl}
+use Prim.Native.Nat.{◌-◌}
+use native.Mathlib.Omega.{arith}
+use lib.ListN.{length}
+use borrow.Author.Rules.{rules}
+use Rattle.layout.specs.Bounds.{Sizes}
+use Rattle.layout.specs.Memory.{state_of, marked_of}
+use Rattle.layout.specs.Sizes.{marks_length}
+use Rattle.command_file.specs.Replay.{TakenTo}
+use Rattle.command_file.specs.Laws.Replay.{taken_none, taken_more, file_taken}
+use Rattle.command_file.proofs.take_all.Goals as goal
+
+pub loop-position-init : goal.loop-position-init
+loop-position-init c =
+    (c.requires.sizes, c.requires.marks_len, taken_none _ _ _ _ c.requires.marks_len refl refl refl c.requires.fresh)
+
+pub loop-position-preserved : goal.loop-position-preserved
+loop-position-preserved c =
+    (search rules, search rules, (taken_more _ _ _ _ _ _ c.loop-position.invariant.2 c.loop-position-test.true c.take_next-position.ensures).1)
+
+pub returns : goal.returns
+returns c =
+    file_taken _ _ _ _ c.loop-position.invariant.2 c.loop-position-test.false
