@@ -1,6 +1,7 @@
 // The decoder of a file of commands: from a slice and a place to the command there with its counts and the next place, or refusal 3 or 4.
 // Proved: what it reads is specs/Commands.antt's read_at, on every input. Assumed: nothing.
 #![tactic(auto)]
+
 ghost use Rattle.std.specs.Prelude.{◌≡◌, true, ◌+◌, ◌≤◌, length};
 ghost use Rattle.model.specs.Commands.{is_kind, body_size, head_at, row_at, gap_at, command_at, counts_at, read_at};
 

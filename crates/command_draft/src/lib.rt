@@ -2,6 +2,7 @@
 // holds. What each does to a draft takes the draft and gives it back (redraft), apart from the value; kind 6 does likewise in a crate of its own.
 // Proved: what each answers and leaves is what specs/Promise.antt of the crate model says; all of it is safe on any contents. Assumed: nothing.
 #![tactic(auto)]
+
 pub mod fields; // the checks that kinds 2 and 3 share
 pub mod redraft; // what they give back of a draft, and their outcome
 pub mod head; // kind 2

@@ -2,6 +2,7 @@
 // Proved: which bytes are written, and that no others are; what is counted; and that what both kinds answer and leave is what specs/Promise.antt of the crate model
 // says. Assumed: nothing.
 #![tactic(auto)]
+
 pub mod copy; // bytes over bytes
 mod check; // the refusals
 pub mod keep; // kind 7

@@ -3,6 +3,7 @@
 // that means on a board is for the crates above.
 // Assumed: nothing.
 #![tactic(auto)]
+
 ghost use Rattle.std.specs.Prelude.{◌<◌};
 ghost use Rattle.tables.specs.Masks.{Has, flags_of};
 ghost use Rattle.masks.specs.Rules.{RulesOn};

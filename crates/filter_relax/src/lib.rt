@@ -4,6 +4,7 @@
 // (specs/Relaxed.antt). What that means on a board is for the crates above.
 // Assumed: nothing.
 #![tactic(auto)]
+
 pub mod visit; // slots join the visited
 pub mod seed; // the slots with a rule as their cause
 pub mod scan; // the walk over a rule's rows: visited by visited killers

@@ -2,7 +2,7 @@
 ghost use Rattle.std.specs.Prelude.{◌≡◌};
 ghost use Rattle.model.specs.Refusals.{or_else};
 
-// n, or where it is 0 the number of a check that holds. A list of checks is a chain of these, one line for each (specs/Laws/Refusals.antt, chain-first).
+// n, or where it is 0 the number of a check that holds. A list of checks is a chain of these, one line for each (proofs/Laws/Refusals.antt, chain_first).
 pub fn or_refuse(n: u8, holds: bool, number: u8) -> u8
     ensures { result ≡ or_else n holds number }
 {

@@ -1,6 +1,7 @@
 // The check of a plan from elsewhere (order 10, SCOPE 5.7): kept, or the lowest number of a rule in force that the plan breaks.
 // Proved: the answer meets its promise of plan_model's specs/Check.antt, on any value, any buffers and any plan. Assumed: nothing.
 #![tactic(auto)]
+
 mod refusal; // the checks of the question
 mod broken; // the lowest broken rule
 

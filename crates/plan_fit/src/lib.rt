@@ -1,6 +1,7 @@
 // A plan against a rule of the board: which columns of the rule count, and whether a row fits the plan in all of them (SCOPE 1.23).
 // Proved: a rule is broken exactly as `breaks?` of plan_model says, read off any value and any bytes. Assumed: nothing.
 #![tactic(auto)]
+
 pub mod calls; // the slots that a call has in a plan
 pub mod columns; // the calls of a rule's columns, and what a plan has for them
 pub mod rows; // the rows of a rule, each as one word

@@ -1,6 +1,7 @@
 // The first full plan (order 8, SCOPE 5.9): calls are laid in rising order, each with the lowest open slot that stays, and where none is left the call before goes on.
 // Proved: the answer meets its promise of plan_search's specs/First.antt, on any value and any buffers. Assumed: nothing.
 #![tactic(auto)]
+
 mod lay; // the search by the tables
 mod first; // the search from the tables to the answer
 

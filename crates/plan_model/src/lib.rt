@@ -2,4 +2,5 @@
 // theorems over them.
 // Proved: every theorem of specs/. Assumed: nothing.
 #![tactic(auto)]
+
 pub mod answer; // what the question answers

@@ -2,4 +2,5 @@
 // over them; plan_lay has the question's code.
 // Proved: every theorem of specs/. Assumed: nothing.
 #![tactic(auto)]
+
 pub mod answer; // what the question answers

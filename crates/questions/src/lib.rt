@@ -1,6 +1,7 @@
 // The questions: the slots of a call, the state of a slot, a row's state and its four bytes, and the support of a slot in a rule's column.
 // Proved: each answer meets its promise of the model's specs/Questions.antt, on any value and any buffers. Assumed: nothing.
 #![tactic(auto)]
+
 mod weights; // the table of weights in a mask
 mod read; // bytes of the value and of the lent buffers
 mod refusal; // the checks of each question

@@ -2,6 +2,7 @@
 // writes, and returns the place after it.
 // Proved: what is written is the definition's bytes, and every other byte is as it was. Assumed: nothing.
 #![tactic(auto)]
+
 ghost use Rattle.std.specs.Prelude.{◌≡◌, [], ◌∷◌, ◌≤◌, ◌<◌, length};
 ghost use Rattle.model.specs.Ledger.{up_to_zero};
 ghost use Rattle.model.specs.Sheet.{decimal, spaced, accepted_line, refused_line, total_line, end_line};

@@ -1,6 +1,7 @@
-// The store into the summary table that the host lends: a slice of records, which is written by hand-proved functions.
+// The store into the summary table that the host lends: a slice of records.
 // Proved: the first records are those that are to be stored, and every other is as it was. Assumed: nothing.
 #![tactic(auto)]
+
 ghost use Rattle.std.specs.Prelude.{◌≡◌, ◌≤◌, length};
 ghost use Rattle.layout.specs.Summary.{replaced};
 

@@ -7,9 +7,7 @@ use Rattle.tables.specs.Laws.Count.{count_le}
 use Rattle.filter_propagate.specs.Laws.Queue.{none_idle}
 use Rattle.filter_propagate.specs.Laws.Step.{first_enqueued, first_quiet}
 use Rattle.filter_propagate.specs.Laws.Steps.{propagated_before}
-use Rattle.filter_propagate.specs.Laws.Kept.{revised_sizes}
 use Rattle.filter_support.specs.Laws.Known.{known_none}
-use borrow.Author.Rules.{rules}
 use Rattle.filter_propagate.proofs.propagate_from.Goals as goal
 
 pub revise-first-requires : goal.revise-first-requires

@@ -1,16 +1,7 @@
 -- The loop has made steps from the start, and has counted by how many fewer slots are open; what remains falls with each step.
-use mathlib.Core.Path.{◌≡◌}
-use Prim.Native.Nat.{◌+◌}
 use native.Mathlib.Omega.{arith}
-use Rattle.tables.specs.Count.{count}
-use Rattle.tables.specs.Masks.{Has, flags_of}
-use Rattle.layout.specs.Bounds.{Sizes}
-use Rattle.masks.specs.Rules.{NextRule}
-use Rattle.filter_propagate.specs.Rules.{bytes_of, reached}
 use Rattle.filter_support.specs.Strikes.{is_open}
-use Rattle.filter_support.specs.Known.{Known}
-use Rattle.filter_propagate.specs.Step.{remaining}
-use Rattle.filter_propagate.specs.Steps.{Steps, start, more}
+use Rattle.filter_propagate.specs.Steps.{start, more}
 use Rattle.tables.specs.Laws.Count.{count_le}
 use Rattle.tables.specs.Laws.Flags.{flags_length}
 use Rattle.filter_propagate.specs.Laws.Queue.{none_idle}

@@ -1,10 +1,7 @@
 -- The struck slots of the columns, as they are known, the walk over the rows by them, then the strikes by what it found: `revision_from` joins the three. The strikes keep
 -- what is known.
-use native.Mathlib.Omega.{arith}
-use Rattle.masks.specs.Laws.Columns.{sets_past}
 use Rattle.filter_propagate.specs.Laws.Step.{revision_from}
-use Rattle.filter_support.specs.Laws.Known.{known_some, known_still, struck_sets}
-use borrow.Author.Rules.{rules}
+use Rattle.filter_support.specs.Laws.Known.{known_still, struck_sets}
 use Rattle.filter_propagate.proofs.revise.Goals as goal
 
 pub returns : goal.returns

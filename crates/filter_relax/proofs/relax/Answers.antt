@@ -1,7 +1,6 @@
 -- The closure, the reopening, the pending rules and the reviving: `relaxed` joins the four.
 use Rattle.filter_propagate.specs.Rules.{rules_in}
 use Rattle.filter_relax.proofs.Laws.Relaxed.{relaxed}
-use borrow.Author.Rules.{rules}
 use Rattle.filter_relax.proofs.relax.Goals as goal
 
 pub returns : goal.returns

@@ -1,7 +1,6 @@
 -- The refusal's number decides; behind it the lowest broken rule does.
-use borrow.Author.Rules.{rules}
-use Rattle.layout.specs.Memory.{State, state_of}
-use Rattle.plan_check.specs.Laws.Answers.{plan_refused, rows_size, plan_size_lem, plan_broken, plan_kept}
+use Rattle.layout.specs.Memory.{state_of}
+use Rattle.plan_check.specs.Laws.Answers.{plan_refused, plan_broken, plan_kept}
 use Rattle.plan_check.proofs.check_plan.Goals as goal
 
 pub returns-then-refusal-ne0 : goal.returns-then-refusal-ne0

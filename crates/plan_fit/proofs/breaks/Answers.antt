@@ -1,9 +1,8 @@
 -- The words that the code makes are those of the columns and of the plan.
 use mathlib.Core.List.{[]}
 use native.Mathlib.Omega.{arith}
-use Rattle.layout.specs.Memory.{State, state_of_parts}
+use Rattle.layout.specs.Memory.{state_of_parts}
 use Rattle.plan_fit.specs.Laws.Fits.{no_rule_broken, unbound, broken_unless}
-use borrow.Author.Rules.{rules}
 use Rattle.plan_fit.proofs.breaks.Goals as goal
 
 pub returns-then-arity-p-eq0 : goal.returns-then-arity-p-eq0

@@ -1,5 +1,5 @@
 -- LOOPS THAT LOOK FOR A NUMBER THAT PASSES, part by part: one number more, and one part more. Assumes nothing.
-use Rattle.std.specs.Prelude.{◌≡◌, refl, Bool, true, false, ◌||◌, ◌⊎◌, ℕ, ◌+◌, ◌≤◌}
+use Rattle.std.specs.Prelude.{◌≡◌, refl, Bool, true, false, ◌||◌, ℕ, ◌+◌, ◌≤◌}
 use Rattle.std.proofs.Common.{sym, ◌∙◌, ⊎_elim, arith}
 use Rattle.tables.specs.Laws.Facts.{true_false, lt_or_le, eq_or_ne}
 use Rattle.model.specs.Tests.{some?}

@@ -1,12 +1,12 @@
 -- THE SEARCH BY THE TABLES IS THE SEARCH OFF THE MEMORY. A rule is looked at once, with its last call: the others that are due were due before, with the same slots.
 -- Assumes nothing.
-use Rattle.std.specs.Prelude.{◌≡◌, true, false, not, ◌||◌, ◌⊎◌, length, set, T, ltb}
+use Rattle.std.specs.Prelude.{◌≡◌, true, false, not, ◌||◌, ◌⊎◌, length, set, T}
 use Rattle.std.proofs.Math.Path.{refl, sym}
-use Rattle.std.proofs.Common.{ap, ◌∙◌, arith, eq-or-lt_of_le, length-set, get_or-set_same, get_or-set_other, eqb→eq, T_not, lt-ltb, le-ltb}
+use Rattle.std.proofs.Common.{◌∙◌, arith, eq-or-lt_of_le, length-set, get_or-set_same, get_or-set_other, eqb→eq, T_not, lt-ltb, le-ltb}
 use Rattle.std.proofs.Math.Bool.{Bool}
 use mathlib.Core.List.{List}
 use Rattle.std.proofs.Math.Logic.{inl, inr, ⊎_elim}
-use Prim.Native.Nat.{ℕ, zero, suc, ◌+◌, ◌*◌, ◌<◌, ◌≤◌}
+use Prim.Native.Nat.{ℕ, suc, ◌+◌, ◌*◌, ◌<◌, ◌≤◌}
 use Rattle.std.proofs.Math.ListN.{get_or}
 use Rattle.std.proofs.lemmas.List.{length-replicate}
 use Rattle.std.proofs.Math.Dec.{eqb, not_T}
@@ -21,7 +21,7 @@ use Rattle.model.specs.Report.{open?}
 use Rattle.model.proofs.Laws.Tests.{and→, →and, or→, →or, →T, T→, same_test, →eqb, T?, some→, →some, every→, →every}
 use Rattle.model.proofs.Laws.Search.{some_same, every_same}
 use Rattle.plan_model.specs.Plans.{RulesRead, rules_in, slot_in, fits?, fitted?}
-use Rattle.plan_fit.specs.Words.{mask_byte, plan_byte, IsWord, row_matches?}
+use Rattle.plan_fit.specs.Words.{mask_byte, plan_byte, row_matches?}
 use Rattle.plan_fit.specs.Laws.Fits.{matched_fitted}
 use Rattle.plan_search.specs.Search.{Task, laid?, due?, stays?}
 use Rattle.plan_search.specs.First.{no_plan, memory_task, search_all}
@@ -33,7 +33,7 @@ use Rattle.plan_tables.specs.Due.{rule_stage, DueRules}
 use Rattle.plan_lay.specs.Lay.{table_task, CallsOf, calls_from}
 use Rattle.plan_tables.specs.Fit.{wanted_by, fitted_by, stays_by}
 use Rattle.plan_tables.specs.Laws.Lookup.{columns_of_lem}
-use Rattle.plan_tables.specs.Laws.Last.{LastCall, lays_agree, stage→last, last→stage}
+use Rattle.plan_tables.specs.Laws.Last.{lays_agree, stage→last, last→stage}
 
 -- A RULE THAT IS DUE, of the rules as they are read: some call of it is laid, and each is laid or cancelled
 pub record DueRead (R : RulesRead) (plan : List ℕ) (p : ℕ) : Type 0 where

@@ -1,5 +1,5 @@
 -- THE STEPS OF THE SEARCH, as the code takes them: the next open slot, the calls and slots from one on, and what each step comes to under the ceiling. Assumes nothing.
-use Rattle.std.specs.Prelude.{◌≡◌, refl, Bool, true, false, cond, List, ◌≢◌, set, eqb}
+use Rattle.std.specs.Prelude.{◌≡◌, refl, true, false, List, ◌≢◌, set, eqb}
 use Rattle.std.proofs.Common.{sym, ap, ◌∙◌, set-set}
 use Prim.Native.Nat.{ℕ, zero, suc, ◌+◌, ◌-◌, ◌/◌, ◌%◌, ◌^◌, ◌<◌, ◌≤◌}
 use native.Mathlib.Omega.{arith}
@@ -9,9 +9,9 @@ use Rattle.std.specs.Int.Count.{count_trailing_zeros, under}
 use borrow.Author.Tests.{eq-eqb, ne_eqb, le-leb, lt-ltb, le-ltb}
 use Rattle.tables.specs.Masks.{bit_of}
 use Rattle.model.specs.Board.{no_slot_given}
-use Rattle.tables.specs.Laws.Masks.{bit_zero, bit_above, lowest, has_below}
+use Rattle.tables.specs.Laws.Masks.{bit_zero, bit_above, lowest}
 use Rattle.plan_search.specs.Search.{Result, found, nothing, after, or_next, Task}
-use Rattle.plan_search.specs.First.{Clear, Ended, full, none, stopped, cut}
+use Rattle.plan_search.specs.First.{Clear, Ended, full, stopped, cut}
 use Rattle.plan_search.proofs.Laws.Search.{tries_end, tries_closed, tries_open, search_end, search_skips, search_lays, tries_set, clear_away, goes_on?, later, cut_later, cut_over, cut_first, cut_on}
 use Rattle.plan_lay.specs.declared.lay.Ending.{Ending}
 use Rattle.plan_lay.specs.declared.lay.Ending.TheVariants as ending

@@ -1,7 +1,7 @@
 -- THE MACHINE ENDS AS THE SEARCH SAYS: with its plan or with none, and with its count (SCOPE 5.10). Assumes nothing.
-use Rattle.std.specs.Prelude.{◌≡◌, Bool, true, false, cond, List, ◌⊎◌, ℕ, zero, suc, ◌+◌, ◌<◌, ◌≤◌, set, ltb}
+use Rattle.std.specs.Prelude.{◌≡◌, Bool, true, false, cond, List, ◌⊎◌, ℕ, zero, suc, ◌+◌, ◌<◌, set, ltb}
 use Rattle.std.proofs.Math.Path.{refl}
-use Rattle.std.proofs.Common.{sym, ap, subst, ◌∙◌, inl, inr, get_or-set_same, set-set, lt-ltb}
+use Rattle.std.proofs.Common.{sym, subst, ◌∙◌, inl, inr, get_or-set_same, set-set, lt-ltb}
 use native.Mathlib.Omega.{arith}
 use Rattle.tables.specs.Laws.Facts.{true_false, true_or_false}
 use Rattle.model.specs.Board.{no_slot_given}

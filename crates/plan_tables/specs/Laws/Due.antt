@@ -1,10 +1,10 @@
 -- STAGES, column by column, and the rules that calls make due, rule by rule. Assumes nothing.
-use Rattle.std.specs.Prelude.{◌≡◌, List, ◌⊎◌, ◌≢◌, ℕ, ◌+◌, ◌*◌, ◌<◌, ◌≤◌, max, length, get_or, replicate}
+use Rattle.std.specs.Prelude.{◌≡◌, List, ◌≢◌, ℕ, ◌+◌, ◌*◌, ◌<◌, ◌≤◌, max, get_or, replicate}
 use Rattle.std.proofs.Math.Path.{refl}
 use Rattle.std.proofs.Common.{sym, ◌∙◌, ⊎_elim, arith}
 use Rattle.std.proofs.lemmas.List.{length-replicate, get_or-replicate}
 use borrow.Author.Tests.{lt-ltb, le-ltb, ne_eqb}
-use Rattle.tables.specs.Masks.{Has, IsMask}
+use Rattle.tables.specs.Masks.{Has}
 use Rattle.tables.specs.Laws.Facts.{eq_or_ne}
 use Rattle.tables.specs.Laws.Masks.{mask_none}
 use Rattle.masks.specs.Rules.{Inserted}

@@ -1,6 +1,5 @@
 -- The call's refusal is the answer's; where there is none, the mask is the definition's, and its ones are the open slots.
-use borrow.Author.Rules.{rules}
-use Rattle.layout.specs.Memory.{State, state_of}
+use Rattle.layout.specs.Memory.{state_of}
 use Rattle.questions.proofs.Laws.Answers.{slots_refused, slots_given}
 use Rattle.questions.proofs.open_slots.Goals as goal
 

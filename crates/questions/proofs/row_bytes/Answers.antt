@@ -2,7 +2,7 @@
 use mathlib.Core.Path.{refl}
 use native.Mathlib.Nat.{add-sub_cancel_left}
 use native.Mathlib.Omega.{arith}
-use Rattle.layout.specs.Memory.{State, state_of}
+use Rattle.layout.specs.Memory.{state_of}
 use Rattle.questions.proofs.Laws.Answers.{row_bytes_given}
 use Rattle.questions.proofs.row_bytes.Goals as goal
 

@@ -1,11 +1,8 @@
 -- The row's refusal is the answer's; where there is none, the killer's byte lies in the buffer and the code's test of it is the definition's.
 use mathlib.Core.Path.{refl}
-use native.Mathlib.Omega.{arith}
-use borrow.Author.Rules.{rules}
 use borrow.Author.Tests.{eq-eqb, ne_eqb}
-use Rattle.layout.specs.Memory.{State, state_of}
+use Rattle.layout.specs.Memory.{state_of}
 use Rattle.questions.proofs.Laws.Answers.{row_refused, row_given}
-use Rattle.questions.proofs.Laws.Bounds.{row_bounds}
 use Rattle.questions.proofs.row_state.Goals as goal
 
 pub returns-then-refusal-ne0 : goal.returns-then-refusal-ne0

@@ -1,8 +1,7 @@
 -- The slot's refusal is the answer's; where there is none, the code's tests of the slot's byte are the definition's.
-use borrow.Author.Rules.{rules}
-use borrow.Author.Tests.{eq-eqb, ne_eqb}
-use Rattle.layout.specs.Memory.{State, state_of}
-use Rattle.questions.proofs.Laws.Answers.{state_refused, state_given}
+use borrow.Author.Tests.{ne_eqb}
+use Rattle.layout.specs.Memory.{state_of}
+use Rattle.questions.proofs.Laws.Answers.{state_given}
 use Rattle.questions.proofs.slot_state.Goals as goal
 
 pub returns-else-byte-2 : goal.returns-else-byte-2

@@ -1,9 +1,7 @@
 -- The refusal of the checks is the answer's. Where there is none, the code's test of the column's call is the definition's; in an active column the search may look at
 -- every row of the rule.
-use borrow.Author.Rules.{rules}
-use Rattle.layout.specs.Memory.{State, state_of}
+use Rattle.layout.specs.Memory.{state_of}
 use Rattle.questions.proofs.Laws.Answers.{support_refused, support_given, support_cancelled}
-use Rattle.questions.proofs.Laws.Bounds.{support_bounds}
 use Rattle.questions.proofs.support.Goals as goal
 
 pub returns-then-refusal-ne0 : goal.returns-then-refusal-ne0

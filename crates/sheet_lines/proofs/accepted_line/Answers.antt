@@ -1,7 +1,5 @@
 -- The four calls write the parts of the line, and there is room for each after the ones before it.
-use native.Mathlib.Omega.{arith}
-use borrow.Author.Rules.{rules}
-use Rattle.sheet_lines.proofs.Laws.Append.{append_more, append_same, room_parts, room_first, room_rest}
+use Rattle.sheet_lines.proofs.Laws.Append.{append_more, append_same}
 use Rattle.sheet_lines.proofs.Laws.Lines.{accepted_parts_lem}
 use Rattle.sheet_lines.proofs.accepted_line.Goals as goal
 

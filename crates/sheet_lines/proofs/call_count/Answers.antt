@@ -1,10 +1,6 @@
 -- The loop has found no 0 among the counts that it passed.
-use mathlib.Core.Path.{◌≡◌}
-use Prim.Native.Nat.{ℕ, ◌≤◌, ◌<◌, ◌-◌}
 use native.Mathlib.Omega.{arith}
-use lib.ListN.{get_or, get_or-eq_default}
-use borrow.Author.Count.{below_more}
-use borrow.Author.Rules.{rules}
+use lib.ListN.{get_or-eq_default}
 use Rattle.sheet_lines.proofs.Laws.Counts.{first_zero}
 use Rattle.sheet_lines.proofs.call_count.Goals as goal
 

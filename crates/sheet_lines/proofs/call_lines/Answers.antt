@@ -1,11 +1,7 @@
 -- One call's line more is written in each round.
-use Prim.Native.Nat.{◌≤◌, ◌-◌}
 use native.Mathlib.Omega.{arith}
-use borrow.Author.Rules.{rules}
-use Rattle.sheet_lines.specs.Append.{Appended}
-use Rattle.sheet_lines.specs.Joined.{joined}
 use Rattle.sheet_lines.specs.Calls.{slot_line}
-use Rattle.sheet_lines.proofs.Laws.Joined.{joined_none, joined_more, joined_at, joined_room}
+use Rattle.sheet_lines.proofs.Laws.Joined.{joined_none, joined_more, joined_room}
 use Rattle.sheet_lines.proofs.call_lines.Goals as goal
 
 pub loop-c-init : goal.loop-c-init

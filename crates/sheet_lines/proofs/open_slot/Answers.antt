@@ -1,7 +1,6 @@
 -- By the test the slot is open, and its number is written, or is not.
 use mathlib.Core.Path.{sym}
 use native.Mathlib.Omega.{arith}
-use borrow.Author.Rules.{rules}
 use Rattle.sheet_lines.proofs.Laws.Append.{append_none, append_same, room_same}
 use Rattle.sheet_lines.proofs.Laws.Calls.{open_number_lem, no_number}
 use Rattle.sheet_lines.proofs.open_slot.Goals as goal

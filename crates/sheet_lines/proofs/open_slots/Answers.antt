@@ -1,10 +1,6 @@
 -- One slot more is written in each round.
 use mathlib.Core.Path.{sym}
-use Prim.Native.Nat.{◌≤◌, ◌-◌}
 use native.Mathlib.Omega.{arith}
-use borrow.Author.Rules.{rules}
-use Rattle.sheet_lines.specs.Append.{Appended}
-use Rattle.sheet_lines.specs.Joined.{joined}
 use Rattle.sheet_lines.specs.Calls.{open_number}
 use Rattle.sheet_lines.proofs.Laws.Append.{append_same, room_same}
 use Rattle.sheet_lines.proofs.Laws.Calls.{open_joined}

@@ -1,7 +1,6 @@
 -- The three calls write the parts of the line, and there is room for each after the ones before it.
 use mathlib.Core.List.{[], ◌∷◌}
-use native.Mathlib.Omega.{arith}
-use Rattle.sheet_lines.proofs.Laws.Append.{append_more, append_same, room_parts, room_first, room_rest}
+use Rattle.sheet_lines.proofs.Laws.Append.{append_more, append_same}
 use Rattle.sheet_lines.proofs.Laws.Lines.{line_parts_lem}
 use Rattle.sheet_lines.proofs.refused_line.Goals as goal
 

@@ -1,13 +1,9 @@
 -- One byte more of the text is appended in each round.
 use mathlib.Core.List.{[], ◌∷◌}
 use mathlib.Core.Path.{sym, ◌∙◌}
-use Prim.Native.Nat.{◌≤◌, ◌-◌}
 use native.Mathlib.Omega.{arith}
 use lib.ListN.{length, get_or}
 use lib.Seq.{take-length}
-use borrow.Author.Rules.{rules}
-use Rattle.sheet_lines.specs.Append.{Appended}
-use Rattle.sheet_lines.specs.Joined.{joined}
 use Rattle.sheet_lines.proofs.Laws.Append.{append_same, room_same}
 use Rattle.sheet_lines.proofs.Laws.Joined.{joined_none, joined_more, joined_at, joined_room, joined_bytes}
 use Rattle.sheet_lines.proofs.write_bytes.Goals as goal

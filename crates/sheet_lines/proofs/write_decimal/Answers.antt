@@ -1,7 +1,5 @@
 -- The four digits are the parts of the number's decimal, and there is room for each after the ones before it.
-use native.Mathlib.Omega.{arith}
-use borrow.Author.Rules.{rules}
-use Rattle.sheet_lines.proofs.Laws.Append.{append_more, append_same, room_parts, room_first, room_rest}
+use Rattle.sheet_lines.proofs.Laws.Append.{append_more, append_same}
 use Rattle.sheet_lines.proofs.Laws.Digits.{decimal_parts_lem}
 use Rattle.sheet_lines.proofs.write_decimal.Goals as goal
 

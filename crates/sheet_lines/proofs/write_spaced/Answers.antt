@@ -1,10 +1,8 @@
 -- The space and the number's decimal are the whole of it.
 use mathlib.Core.List.{append-nil}
 use mathlib.Core.Path.{sym}
-use borrow.Author.Rules.{rules}
 use Rattle.model.specs.Sheet.{decimal}
-use Rattle.sheet_lines.proofs.Laws.Append.{append_more, append_same, room_parts, room_first, room_rest}
-use Rattle.sheet_lines.proofs.Laws.Lines.{spaced_parts_lem}
+use Rattle.sheet_lines.proofs.Laws.Append.{append_more, append_same}
 use Rattle.sheet_lines.proofs.write_spaced.Goals as goal
 
 pub returns : goal.returns

@@ -1,5 +1,4 @@
 -- The letter, and then the number after a space.
-use borrow.Author.Rules.{rules}
 use Rattle.sheet_lines.proofs.Laws.Append.{append_more}
 use Rattle.sheet_lines.proofs.write_start.Goals as goal
 

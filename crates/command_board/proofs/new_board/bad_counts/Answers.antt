@@ -1,9 +1,7 @@
 -- The loop has passed no bad count, and `ended` says whether a 0 is among those that it passed.
 use mathlib.Core.Path.{sym, ◌∙◌}
-use Prim.Native.Nat.{◌≤◌, ◌-◌}
 use native.Mathlib.Omega.{arith}
-use Rattle.command_board.specs.Laws.Counts.{GoodSoFar, good_none, good_more, good_all, bad_found}
-use borrow.Author.Rules.{rules}
+use Rattle.command_board.specs.Laws.Counts.{good_all, bad_found}
 use Rattle.command_board.proofs.new_board.bad_counts.Goals as goal
 
 pub returns-then-bad_count : goal.returns-then-bad_count

@@ -1,9 +1,6 @@
 -- The loop has passed no bad count, and `ended` says whether a 0 is among those that it passed.
-use mathlib.Core.Path.{sym, ◌∙◌}
 use Prim.Native.Nat.{◌≤◌, ◌-◌}
-use native.Mathlib.Omega.{arith}
-use Rattle.command_board.specs.Laws.Counts.{GoodSoFar, good_none, good_more, good_all, bad_found}
-use borrow.Author.Rules.{rules}
+use Rattle.command_board.specs.Laws.Counts.{GoodSoFar}
 use Rattle.command_board.proofs.new_board.bad_counts.Given as goal
 
 abbrev pub invariant-loop-j : goal.invariant-loop-j

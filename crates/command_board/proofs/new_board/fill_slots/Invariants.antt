@@ -1,11 +1,9 @@
 -- Each round writes the next byte; after the last all are written.
-use mathlib.Core.Path.{◌≡◌, ◌∙◌}
+use mathlib.Core.Path.{◌≡◌}
 use Prim.Native.Nat.{◌≤◌, ◌-◌}
-use native.Mathlib.Omega.{arith}
 use lib.ListN.{length}
 use Rattle.command_board.specs.Made.{slot_byte}
-use borrow.Author.Rules.{rules}
-use Rattle.tables.specs.Laws.Fill.{FilledTo, filled_none, filled_more, filled_at}
+use Rattle.tables.specs.Laws.Fill.{FilledTo}
 use Rattle.layout.specs.Sizes.{slots_length}
 use Rattle.command_board.proofs.new_board.fill_slots.Given as goal
 

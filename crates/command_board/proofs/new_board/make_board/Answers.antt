@@ -1,7 +1,6 @@
 -- Bad counts change nothing; others make a board of them on any memory.
 use mathlib.Core.Path.{sym, ◌∙◌}
-use Rattle.command_board.specs.Laws.Made.{makes_new, makes_nothing}
-use borrow.Author.Rules.{rules}
+use Rattle.command_board.specs.Laws.Made.{makes_new}
 use Rattle.command_board.proofs.new_board.make_board.Goals as goal
 
 pub returns : goal.returns

@@ -1,5 +1,4 @@
 -- The code's test is the definition's.
-use borrow.Author.Rules.{rules}
 use borrow.Author.Tests.{lt-ltb, le-ltb}
 use Rattle.command_board.specs.Made.{slot_byte}
 use Rattle.command_board.proofs.new_board.slot_byte.Goals as goal

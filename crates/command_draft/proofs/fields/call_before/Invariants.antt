@@ -1,12 +1,8 @@
 -- The loop has found no call like the one at k among those that it passed.
 use Prim.Native.Nat.{◌≤◌, ◌-◌}
-use native.Mathlib.Omega.{arith}
 use lib.ListN.{get_or}
 use lib.Dec.{eqb}
-use borrow.Author.Tests.{eq-eqb, ne_eqb}
-use Rattle.model.proofs.Laws.Search.{NoneBelow, none_start, none_more, none_found, some_found}
-use Rattle.tables.specs.Laws.Facts.{any_default}
-use borrow.Author.Rules.{rules}
+use Rattle.model.proofs.Laws.Search.{NoneBelow}
 use Rattle.command_draft.proofs.fields.call_before.Given as goal
 
 abbrev pub invariant-loop-j : goal.invariant-loop-j

@@ -1,12 +1,8 @@
 -- The loop has found no cancelled call among those that it passed.
 use mathlib.Core.Path.{sym, ◌∙◌}
-use Prim.Native.Nat.{◌≤◌, ◌-◌}
 use native.Mathlib.Omega.{arith}
-use lib.ListN.{get_or}
-use Rattle.layout.specs.Places.{cancelled?}
-use Rattle.model.proofs.Laws.Search.{NoneBelow, none_start, none_more, none_found, some_found}
+use Rattle.model.proofs.Laws.Search.{some_found}
 use Rattle.tables.specs.Laws.Facts.{any_default}
-use borrow.Author.Rules.{rules}
 use Rattle.command_draft.proofs.fields.call_cancelled.Goals as goal
 
 pub returns-then-is_cancelled : goal.returns-then-is_cancelled

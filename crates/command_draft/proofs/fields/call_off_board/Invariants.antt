@@ -1,12 +1,8 @@
 -- The loop has found no call off the board among those that it passed.
-use mathlib.Core.Path.{sym, ◌∙◌}
 use Prim.Native.Nat.{◌≤◌, ◌-◌}
-use native.Mathlib.Omega.{arith}
 use lib.ListN.{get_or}
 use Rattle.command_draft.specs.Fields.{off_board?}
-use Rattle.model.proofs.Laws.Search.{NoneBelow, none_start, none_more, none_found, some_found}
-use Rattle.tables.specs.Laws.Facts.{any_default}
-use borrow.Author.Rules.{rules}
+use Rattle.model.proofs.Laws.Search.{NoneBelow}
 use Rattle.command_draft.proofs.fields.call_off_board.Given as goal
 
 abbrev pub invariant-loop-k : goal.invariant-loop-k

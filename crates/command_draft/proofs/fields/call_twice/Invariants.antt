@@ -1,9 +1,7 @@
 -- The loop has found no call that is there before among those that it passed.
 use Prim.Native.Nat.{◌≤◌, ◌-◌}
-use native.Mathlib.Omega.{arith}
 use Rattle.command_draft.specs.Fields.{call_before?}
-use Rattle.model.proofs.Laws.Search.{NoneBelow, none_start, none_more_by, none_found, some_found_by}
-use borrow.Author.Rules.{rules}
+use Rattle.model.proofs.Laws.Search.{NoneBelow}
 use Rattle.command_draft.proofs.fields.call_twice.Given as goal
 
 abbrev pub invariant-loop-k : goal.invariant-loop-k

@@ -1,9 +1,7 @@
 -- The loop has found none of these slots' rows among those that it passed.
 use Prim.Native.Nat.{◌≤◌, ◌-◌}
-use native.Mathlib.Omega.{arith}
 use Rattle.command_draft.specs.Fields.{same_row?}
-use Rattle.model.proofs.Laws.Search.{NoneBelow, none_start, none_more_by, none_found, some_found_by}
-use borrow.Author.Rules.{rules}
+use Rattle.model.proofs.Laws.Search.{NoneBelow}
 use Rattle.command_draft.proofs.fields.row_in_draft.Given as goal
 
 abbrev pub invariant-loop-v : goal.invariant-loop-v

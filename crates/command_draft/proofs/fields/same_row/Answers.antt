@@ -1,12 +1,8 @@
 -- The loop has found the slots alike in the columns that it passed.
-use Prim.Native.Nat.{◌≤◌, ◌-◌, ◌+◌, ◌*◌}
 use native.Mathlib.Omega.{arith}
-use lib.ListN.{get_or}
-use lib.Dec.{eqb}
 use borrow.Author.Tests.{eq-eqb, ne_eqb}
-use Rattle.model.proofs.Laws.Search.{EachBelow, each_start, each_more, each_found, other_found}
+use Rattle.model.proofs.Laws.Search.{each_more, other_found}
 use Rattle.tables.specs.Laws.Facts.{any_default}
-use borrow.Author.Rules.{rules}
 use Rattle.command_draft.proofs.fields.same_row.Goals as goal
 
 pub returns-then-rows-v : goal.returns-then-rows-v

@@ -1,9 +1,6 @@
 -- The loop has found no slot off its call among the columns that it passed.
-use Prim.Native.Nat.{◌≤◌, ◌-◌}
 use native.Mathlib.Omega.{arith}
-use Rattle.command_draft.specs.Fields.{slot_off?}
-use Rattle.model.proofs.Laws.Search.{NoneBelow, none_start, none_more_by, none_found, some_found_by}
-use borrow.Author.Rules.{rules}
+use Rattle.model.proofs.Laws.Search.{some_found_by}
 use Rattle.command_draft.proofs.fields.slot_off_call.Goals as goal
 
 pub returns-then-off_call : goal.returns-then-off_call

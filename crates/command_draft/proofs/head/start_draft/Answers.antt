@@ -1,7 +1,6 @@
 -- What is given back of the draft is right on every ledger.
 use Rattle.command_draft.proofs.Laws.Redraft.{redraft_promise}
 use Rattle.command_draft.proofs.Laws.Drafts.{head_right}
-use borrow.Author.Rules.{rules}
 use Rattle.command_draft.proofs.head.start_draft.Goals as goal
 
 pub returns : goal.returns

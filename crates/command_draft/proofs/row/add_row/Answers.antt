@@ -1,7 +1,6 @@
 -- What is given back of the draft is right on every ledger.
 use Rattle.command_draft.proofs.Laws.Redraft.{redraft_promise}
 use Rattle.command_draft.proofs.Laws.Drafts.{row_right}
-use borrow.Author.Rules.{rules}
 use Rattle.command_draft.proofs.row.add_row.Goals as goal
 
 pub returns : goal.returns

@@ -1,7 +1,6 @@
 -- What is refused, and when, is the check's; what is brought back is the stepped ledger's.
 use Rattle.layout.specs.Memory.{marked_memory}
 use Rattle.command_mark.specs.Laws.Kinds.{back_refused, back_accepted, back_known}
-use borrow.Author.Rules.{rules}
 use Rattle.command_mark.proofs.back.back_board.Goals as goal
 
 pub returns-then-n-ne0 : goal.returns-then-n-ne0

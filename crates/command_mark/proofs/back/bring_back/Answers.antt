@@ -1,5 +1,4 @@
 -- Each buffer is as long as its part.
-use borrow.Author.Rules.{rules}
 use Rattle.command_mark.proofs.back.bring_back.Goals as goal
 
 pub returns : goal.returns

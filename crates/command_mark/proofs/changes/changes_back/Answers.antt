@@ -1,11 +1,6 @@
 -- The mark's slots are a part of its bytes; what they reopen is what the others would strike.
-use Prim.Native.Nat.{◌+◌, ◌≤◌}
-use native.Mathlib.Omega.{arith}
-use lib.ListN.{length}
 use Rattle.layout.specs.Marks.{slots_start}
-use Rattle.layout.specs.Sizes.{slots_length}
-use Rattle.command_mark.specs.Laws.Changes.{slot_part_size, counted_between}
-use borrow.Author.Rules.{rules}
+use Rattle.command_mark.specs.Laws.Changes.{counted_between}
 use Rattle.command_mark.proofs.changes.changes_back.Goals as goal
 
 pub returns : goal.returns

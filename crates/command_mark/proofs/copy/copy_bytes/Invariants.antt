@@ -1,11 +1,7 @@
 -- Each round writes the next byte; after the last all are the others'.
-use mathlib.Core.Path.{refl}
 use Prim.Native.Nat.{◌≤◌, ◌-◌}
-use native.Mathlib.Omega.{arith}
 use lib.ListN.{length, get_or}
-use borrow.Author.Rules.{rules}
-use Rattle.tables.specs.Laws.Fill.{FilledTo, filled_none, filled_more}
-use Rattle.command_mark.specs.Laws.Copy.{copied_all}
+use Rattle.tables.specs.Laws.Fill.{FilledTo}
 use Rattle.command_mark.proofs.copy.copy_bytes.Given as goal
 
 abbrev pub invariant-loop-i : goal.invariant-loop-i

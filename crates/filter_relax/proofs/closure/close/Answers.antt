@@ -1,11 +1,6 @@
 -- The loop has reached only touched slots, and where it ends every rule is settled; what is unsettled falls with each step.
 use native.Mathlib.Omega.{arith}
-use borrow.Author.Rules.{rules}
-use Rattle.tables.specs.Masks.{flags_of, all_flags}
-use Rattle.masks.specs.Rules.{NextRule}
-use Rattle.filter_propagate.specs.Rules.{bytes_of}
-use Rattle.filter_relax.specs.Closure.{traversal, unsettled}
-use Rattle.filter_relax.proofs.Laws.Closure.{Closing, closing_none, closing_more, closing_size, closed}
+use Rattle.filter_relax.proofs.Laws.Closure.{closing_none, closing_more, closing_size, closed}
 use Rattle.filter_relax.proofs.closure.close.Goals as goal
 
 pub loop-q-init : goal.loop-q-init

@@ -1,12 +1,8 @@
 -- The visited slots of the calls that are not left are reopened and counted; the lowest call of those left is next.
-use Prim.Native.Nat.{◌-◌, ◌<◌}
 use native.Mathlib.Omega.{arith}
-use lib.Bits.{and_le_r}
 use lib.Count.{count_trailing_zeros}
 use lib.ListN.{get_or}
-use Rattle.tables.specs.Laws.Left.{left_lowest}
-use Rattle.filter_relax.proofs.Laws.Reopen.{CallsReopened, call_le, calls_none, calls_more, calls_done, total_few}
-use borrow.Author.Rules.{rules}
+use Rattle.filter_relax.proofs.Laws.Reopen.{call_le, calls_more, calls_done, total_few}
 use Rattle.filter_relax.proofs.reopen.reopen_calls.Goals as goal
 
 pub overflow_add-total : goal.overflow_add-total

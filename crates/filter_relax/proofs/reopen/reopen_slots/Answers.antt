@@ -1,11 +1,9 @@
 -- The slots that are not left are open; the lowest of those left is next.
-use Prim.Native.Nat.{◌-◌, ◌<◌}
+use Prim.Native.Nat.{◌<◌}
 use native.Mathlib.Omega.{arith}
-use lib.Bits.{and_le_r}
 use lib.Count.{count_trailing_zeros}
 use Rattle.tables.specs.Laws.Left.{left_lowest}
-use Rattle.filter_relax.proofs.Laws.Reopen.{SlotsReopened, slots_none, slots_more, slots_done}
-use borrow.Author.Rules.{rules}
+use Rattle.filter_relax.proofs.Laws.Reopen.{slots_more, slots_done}
 use Rattle.filter_relax.proofs.reopen.reopen_slots.Goals as goal
 
 below : (c : goal.In-loop-left) → count_trailing_zeros 32 c.loop-left.left < 32

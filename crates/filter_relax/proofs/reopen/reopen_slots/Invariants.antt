@@ -1,11 +1,5 @@
 -- The slots that are not left are open; the lowest of those left is next.
-use Prim.Native.Nat.{◌-◌, ◌<◌}
-use native.Mathlib.Omega.{arith}
-use lib.Bits.{and_le_r}
-use lib.Count.{count_trailing_zeros}
-use Rattle.tables.specs.Laws.Left.{left_lowest}
-use Rattle.filter_relax.proofs.Laws.Reopen.{SlotsReopened, slots_none, slots_more, slots_done}
-use borrow.Author.Rules.{rules}
+use Rattle.filter_relax.proofs.Laws.Reopen.{SlotsReopened}
 use Rattle.filter_relax.proofs.reopen.reopen_slots.Given as goal
 
 abbrev pub invariant-loop-left : goal.invariant-loop-left

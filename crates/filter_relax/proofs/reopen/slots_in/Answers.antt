@@ -1,7 +1,5 @@
 -- The ones of a mask are the flags of it that are set.
 use mathlib.Core.Path.{sym}
-use native.Mathlib.Omega.{arith}
-use lib.Count.{ones-le}
 use Rattle.tables.specs.Laws.Flags.{count_flags}
 use Rattle.filter_relax.proofs.reopen.slots_in.Goals as goal
 

@@ -2,7 +2,6 @@
 use native.Mathlib.Omega.{arith}
 use Rattle.tables.specs.Laws.Sweep.{one_set}
 use Rattle.filter_relax.proofs.Laws.Revive.{row_revived}
-use borrow.Author.Rules.{rules}
 use Rattle.filter_relax.proofs.revive.revive_row.Goals as goal
 
 pub returns : goal.returns

@@ -1,10 +1,7 @@
 -- One row more is treated in each round.
 use Prim.Native.Nat.{◌≤◌, ◌*◌, ◌-◌}
-use native.Mathlib.Omega.{arith}
 use Rattle.tables.specs.Sweep.{Swept}
-use Rattle.tables.specs.Laws.Sweep.{swept_none, swept_more, swept_at}
 use Rattle.filter_relax.specs.Revive.{MaskRevived}
-use borrow.Author.Rules.{rules}
 use Rattle.filter_relax.proofs.revive.revive_rows.Given as goal
 
 abbrev pub invariant-loop-w : goal.invariant-loop-w

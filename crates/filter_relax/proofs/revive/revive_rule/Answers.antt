@@ -1,7 +1,5 @@
 -- The sets are the visited slots of the rule's calls, so that the killers that go are those on a visited slot.
-use Rattle.masks.specs.Laws.Columns.{sets_past}
 use Rattle.filter_relax.proofs.Laws.Revive.{rule_freed}
-use borrow.Author.Rules.{rules}
 use Rattle.filter_relax.proofs.revive.revive_rule.Goals as goal
 
 pub returns : goal.returns

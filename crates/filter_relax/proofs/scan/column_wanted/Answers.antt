@@ -1,7 +1,6 @@
 -- The slots with the cause q, without those that are visited.
 use native.Mathlib.Omega.{arith}
 use Rattle.filter_relax.proofs.Laws.Scan.{column_wanted}
-use borrow.Author.Rules.{rules}
 use Rattle.filter_relax.proofs.scan.column_wanted.Goals as goal
 
 pub returns-then-k-n : goal.returns-then-k-n

@@ -1,6 +1,5 @@
 -- At most one of the four sets is not empty, that of the killer's column.
 use Rattle.filter_relax.proofs.Laws.Scan.{killer_bits}
-use borrow.Author.Rules.{rules}
 use Rattle.filter_relax.proofs.scan.killer_bit.Goals as goal
 
 pub returns : goal.returns

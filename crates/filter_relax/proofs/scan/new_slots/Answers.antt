@@ -1,8 +1,6 @@
 -- What is new is what the walk finds of the wanted.
 use native.Mathlib.Omega.{arith}
-use Rattle.masks.specs.Laws.Columns.{sets_past}
 use Rattle.filter_relax.proofs.Laws.Scan.{found_wanted}
-use borrow.Author.Rules.{rules}
 use Rattle.filter_relax.proofs.scan.new_slots.Goals as goal
 
 pub returns : goal.returns

@@ -2,8 +2,7 @@
 use mathlib.Core.Path.{◌∙◌}
 use native.Mathlib.Omega.{arith}
 use Rattle.masks.specs.Laws.Columns.{two_same, three_same}
-use Rattle.filter_relax.proofs.Laws.Scan.{scanned_two, scanned_three, scanned_four}
-use borrow.Author.Rules.{rules}
+use Rattle.filter_relax.proofs.Laws.Scan.{scanned_two, scanned_three}
 use Rattle.filter_relax.proofs.scan.scan_columns.Goals as goal
 
 pub returns-then-n-lt3 : goal.returns-then-n-lt3

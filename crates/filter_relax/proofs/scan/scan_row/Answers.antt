@@ -1,6 +1,5 @@
 -- The killer's bit says whether the row's slots join.
 use Rattle.filter_relax.proofs.Laws.Scan.{row_scanned}
-use borrow.Author.Rules.{rules}
 use Rattle.filter_relax.proofs.scan.scan_row.Goals as goal
 
 pub returns : goal.returns

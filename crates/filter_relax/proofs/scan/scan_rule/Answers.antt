@@ -1,6 +1,5 @@
 -- Where something is wanted, what is new is what a row justifies; else all that a row justifies is visited already.
-use Rattle.filter_relax.proofs.Laws.Scan.{wanted_past, scans_quiet, scans_new}
-use borrow.Author.Rules.{rules}
+use Rattle.filter_relax.proofs.Laws.Scan.{scans_quiet, scans_new}
 use Rattle.filter_relax.proofs.scan.scan_rule.Goals as goal
 
 pub returns-then-all_empty : goal.returns-then-all_empty

@@ -1,12 +1,7 @@
 -- One column's slots more are visited in each round.
-use mathlib.Core.Path.{◌≡◌, ◌∙◌}
-use Prim.Native.Nat.{◌≤◌, ◌-◌}
+use mathlib.Core.Path.{◌∙◌}
 use native.Mathlib.Omega.{arith}
-use lib.ListN.{length}
-use borrow.Author.Rules.{rules}
-use Rattle.filter_relax.specs.Spread.{ColumnMask, Adds}
-use Rattle.tables.specs.Assign.{Below}
-use Rattle.filter_relax.proofs.Laws.Spread.{adds_none, adds_more, adds_at, adds_size}
+use Rattle.filter_relax.proofs.Laws.Spread.{adds_more, adds_at, adds_size}
 use Rattle.filter_relax.proofs.scan.visit_columns.Goals as goal
 
 pub loop-k-preserved : goal.loop-k-preserved

@@ -1,12 +1,9 @@
 -- One column's slots more are visited in each round.
-use mathlib.Core.Path.{◌≡◌, ◌∙◌}
+use mathlib.Core.Path.{◌≡◌}
 use Prim.Native.Nat.{◌≤◌, ◌-◌}
-use native.Mathlib.Omega.{arith}
 use lib.ListN.{length}
-use borrow.Author.Rules.{rules}
 use Rattle.filter_relax.specs.Spread.{ColumnMask, Adds}
 use Rattle.tables.specs.Assign.{Below}
-use Rattle.filter_relax.proofs.Laws.Spread.{adds_none, adds_more, adds_at, adds_size}
 use Rattle.filter_relax.proofs.scan.visit_columns.Given as goal
 
 abbrev pub invariant-loop-k : goal.invariant-loop-k

@@ -1,13 +1,9 @@
 -- The slots of one column's call more are visited in each round.
-use mathlib.Core.Path.{◌≡◌, ◌∙◌}
+use mathlib.Core.Path.{◌≡◌}
 use Prim.Native.Nat.{◌≤◌, ◌-◌}
-use native.Mathlib.Omega.{arith}
 use lib.ListN.{length}
-use borrow.Author.Rules.{rules}
 use Rattle.filter_relax.specs.Touched.{Seeded}
 use Rattle.filter_relax.specs.Spread.{Adds}
-use Rattle.filter_relax.proofs.Laws.Spread.{adds_none, adds_more, adds_at, adds_size}
-use Rattle.filter_relax.proofs.Laws.Seed.{adds_caused}
 use Rattle.filter_relax.proofs.seed.visit_seed.Given as goal
 
 abbrev pub invariant-loop-k : goal.invariant-loop-k

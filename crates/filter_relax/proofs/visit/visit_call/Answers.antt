@@ -1,7 +1,6 @@
 -- An empty mask visits nothing, another joins the mask of its call.
 use native.Mathlib.Omega.{arith}
 use Rattle.filter_relax.proofs.Laws.Spread.{adds_zero, adds_mask}
-use borrow.Author.Rules.{rules}
 use Rattle.filter_relax.proofs.visit.visit_call.Goals as goal
 
 pub returns-then-mask-eq0 : goal.returns-then-mask-eq0

@@ -1,7 +1,6 @@
 -- A call whose bit is set is known already; of another the masks are made, and it joins.
 use native.Mathlib.Omega.{arith}
 use Rattle.filter_support.specs.Laws.Known.{learnt_before, learnt_made}
-use borrow.Author.Rules.{rules}
 use Rattle.filter_support.proofs.known.know_call.Goals as goal
 
 pub returns-then-bit-known-ne0 : goal.returns-then-bit-known-ne0

@@ -1,9 +1,6 @@
 -- The call of one column more is known after each turn.
 use Prim.Native.Nat.{◌≤◌, ◌-◌}
-use native.Mathlib.Omega.{arith}
 use Rattle.filter_support.specs.Known.{ColumnCall, Learnt}
-use Rattle.filter_support.specs.Laws.Known.{learnt_none, learnt_more, learnt_at}
-use borrow.Author.Rules.{rules}
 use Rattle.filter_support.proofs.known.know_columns.Given as goal
 
 abbrev pub invariant-loop-k : goal.invariant-loop-k

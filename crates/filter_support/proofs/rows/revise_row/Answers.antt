@@ -1,7 +1,6 @@
 -- The row's slots, its killer, and what is found with it.
 use native.Mathlib.Omega.{arith}
 use Rattle.filter_support.specs.Laws.Walk.{row_walked}
-use borrow.Author.Rules.{rules}
 use Rattle.filter_support.proofs.rows.revise_row.Goals as goal
 
 pub returns : goal.returns

@@ -1,11 +1,7 @@
 -- One column more is treated in each turn, and its call joins the mask exactly where a slot of it was struck. Each turn keeps what is known.
 use Prim.Native.Nat.{◌≤◌, ◌-◌}
-use native.Mathlib.Omega.{arith}
 use Rattle.filter_support.specs.Strikes.{NotIn, ColumnsStruck}
 use Rattle.filter_support.specs.Known.{StillKnown}
-use Rattle.filter_support.specs.Laws.Strikes.{strikes_fit, columns_none, columns_more, columns_at_lem}
-use Rattle.filter_support.specs.Laws.Known.{known_some, known_still, still_none, still_more}
-use borrow.Author.Rules.{rules}
 use Rattle.filter_support.proofs.strikes.strike_columns.Given as goal
 
 abbrev pub invariant-loop-k : goal.invariant-loop-k

@@ -1,7 +1,6 @@
 -- A call where some slots were struck joins the mask, and where none was the mask stays.
 use native.Mathlib.Omega.{arith}
-use Rattle.filter_support.specs.Laws.Strikes.{call_joins, call_none}
-use borrow.Author.Rules.{rules}
+use Rattle.filter_support.specs.Laws.Strikes.{call_joins}
 use Rattle.filter_support.proofs.strikes.with_call.Goals as goal
 
 pub returns-then-number-gt0 : goal.returns-then-number-gt0

@@ -1,13 +1,10 @@
 -- None of the rules before p is broken.
 use mathlib.Core.Path.{sym, ◌∙◌}
 use mathlib.Core.List.{[]}
-use Prim.Native.Nat.{◌-◌, ◌≤◌}
 use native.Mathlib.Omega.{arith}
 use Rattle.layout.specs.Memory.{state_of_parts}
-use Rattle.model.proofs.Laws.Search.{NoneBelow, none_start, none_more}
-use Rattle.plan_model.specs.Plans.{rules_in, breaks?}
+use Rattle.plan_model.specs.Plans.{rules_in}
 use Rattle.plan_check.specs.Laws.Answers.{lowest_found, lowest_none}
-use borrow.Author.Rules.{rules}
 use Rattle.plan_check.proofs.broken.lowest_broken.Goals as goal
 
 pub returns-then-breaks : goal.returns-then-breaks

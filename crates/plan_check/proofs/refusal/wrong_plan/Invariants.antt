@@ -1,15 +1,11 @@
 -- The bytes before c are looked at.
-use mathlib.Core.Path.{◌≡◌, refl, ap₂, ◌∙◌}
+use mathlib.Core.Path.{◌≡◌}
 use mathlib.Core.List.{[]}
 use Prim.Native.Nat.{◌-◌, ◌≤◌}
-use native.Mathlib.Numerals.{add-one}
-use native.Mathlib.Omega.{arith}
 use Rattle.layout.specs.Memory.{state_of_parts}
 use Rattle.model.specs.Tests.{some?}
 use Rattle.plan_model.specs.Plans.{slots_on_in}
-use Rattle.plan_model.specs.Check.{wrong_byte?}
-use Rattle.plan_check.specs.Laws.Answers.{wrong_at, wrong_all}
-use borrow.Author.Rules.{rules}
+use Rattle.plan_check.specs.Laws.Answers.{wrong_at}
 use Rattle.plan_check.proofs.refusal.wrong_plan.Given as goal
 
 abbrev pub invariant-loop-c : goal.invariant-loop-c

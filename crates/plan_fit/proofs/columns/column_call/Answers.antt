@@ -1,7 +1,6 @@
 -- The three cases of the definition.
 use mathlib.Core.Path.{sym, ◌∙◌}
 use Rattle.plan_fit.specs.Laws.Fits.{call_past, call_off, call_here}
-use borrow.Author.Rules.{rules}
 use Rattle.plan_fit.proofs.columns.column_call.Goals as goal
 
 pub returns-then-cap-k : goal.returns-then-cap-k

@@ -1,10 +1,6 @@
 -- None of the rows before w matches.
-use Prim.Native.Nat.{◌-◌, ◌≤◌}
 use native.Mathlib.Omega.{arith}
-use Rattle.model.proofs.Laws.Search.{NoneBelow, none_start}
-use Rattle.plan_fit.specs.Words.{row_matches?}
 use Rattle.plan_fit.specs.Laws.Rows.{part_passes, part_fails, part_last}
-use borrow.Author.Rules.{rules}
 use Rattle.plan_fit.proofs.rows.has_row.Goals as goal
 
 pub returns-then-has_row_between : goal.returns-then-has_row_between

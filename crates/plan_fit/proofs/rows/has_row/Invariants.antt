@@ -1,10 +1,7 @@
 -- None of the rows before w matches.
 use Prim.Native.Nat.{◌-◌, ◌≤◌}
-use native.Mathlib.Omega.{arith}
-use Rattle.model.proofs.Laws.Search.{NoneBelow, none_start}
+use Rattle.model.proofs.Laws.Search.{NoneBelow}
 use Rattle.plan_fit.specs.Words.{row_matches?}
-use Rattle.plan_fit.specs.Laws.Rows.{part_passes, part_fails, part_last}
-use borrow.Author.Rules.{rules}
 use Rattle.plan_fit.proofs.rows.has_row.Given as goal
 
 abbrev pub invariant-loop-w : goal.invariant-loop-w

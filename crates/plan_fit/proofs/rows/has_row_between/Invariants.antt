@@ -1,10 +1,6 @@
 -- The rows from the first on and below w are looked at.
-use mathlib.Core.Path.{◌≡◌, refl}
 use Prim.Native.Nat.{◌-◌, ◌≤◌}
-use native.Mathlib.Omega.{arith}
 use Rattle.plan_fit.specs.Words.{row_matches?, SomeBetween}
-use Rattle.plan_fit.specs.Laws.Rows.{between_start, between_more}
-use borrow.Author.Rules.{rules}
 use Rattle.plan_fit.proofs.rows.has_row_between.Given as goal
 
 abbrev pub invariant-loop-w : goal.invariant-loop-w

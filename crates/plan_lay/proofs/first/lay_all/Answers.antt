@@ -2,7 +2,6 @@
 use native.Mathlib.Omega.{arith}
 use Rattle.plan_search.proofs.Laws.Full.{clear_first}
 use Rattle.plan_lay.specs.Laws.Answers.{all_laid}
-use borrow.Author.Rules.{rules}
 use Rattle.plan_lay.proofs.first.lay_all.Goals as goal
 
 pub lay_calls-ending-requires : goal.lay_calls-ending-requires

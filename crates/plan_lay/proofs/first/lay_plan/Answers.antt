@@ -3,7 +3,6 @@ use mathlib.Core.List.{[]}
 use native.Mathlib.Omega.{arith}
 use Rattle.layout.specs.Memory.{state_of_parts}
 use Rattle.plan_lay.specs.Laws.Answers.{laid_plan}
-use borrow.Author.Rules.{rules}
 use Rattle.plan_lay.proofs.first.lay_plan.Goals as goal
 
 pub returns : goal.returns

@@ -1,6 +1,5 @@
 -- Each ending is answered as the definition says.
 use Rattle.plan_lay.specs.Laws.Answers.{answer_found, answer_none, answer_stopped}
-use borrow.Author.Rules.{rules}
 use Rattle.plan_lay.proofs.first.plan_answer.Goals as goal
 
 pub returns-in-Found : goal.returns-in-Found

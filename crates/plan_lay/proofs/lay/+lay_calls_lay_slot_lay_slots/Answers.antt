@@ -1,7 +1,7 @@
 -- What each function comes to is a step of the search.
-use Rattle.std.proofs.Common.{refl, sym, ap, ◌∙◌, eq-eqb, ne_eqb, arith}
+use Rattle.std.proofs.Common.{refl, sym, ap, ◌∙◌, eq-eqb, ne_eqb}
 use mathlib.Core.Bool.{not}
-use Rattle.plan_lay.specs.Laws.Steps.{calls_done, call_skipped, call_laid, slots_done, slot_found, slot_stops, slot_leaves, slot_stopped, slot_vain, slot_stays, at_none, at_stopped, at_found}
+use Rattle.plan_lay.specs.Laws.Steps.{calls_done, call_skipped, call_laid, slots_done, slot_found, slot_stops, slot_leaves, slot_vain, slot_stays, at_none, at_stopped, at_found}
 use Rattle.plan_lay.proofs.lay.+lay_calls_lay_slot_lay_slots.Goals as goal
 
 pub lay_calls-returns-then-call-ge32 : goal.lay_calls-returns-then-call-ge32

@@ -1,10 +1,7 @@
 -- By whether a bit is left above.
-use Prim.Native.Nat.{◌/◌, ◌^◌}
 use native.Mathlib.Omega.{arith}
 use lib.Pow.{shr_le}
-use lib.Count.{trailing_le}
 use Rattle.plan_lay.specs.Laws.Steps.{next_none, next_found}
-use borrow.Author.Rules.{rules}
 use Rattle.plan_lay.proofs.lay.next_open.Goals as goal
 
 pub returns-then-above-eq0 : goal.returns-then-above-eq0

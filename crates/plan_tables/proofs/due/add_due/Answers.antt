@@ -2,10 +2,7 @@
 use mathlib.Core.Path.{refl}
 use native.Mathlib.Omega.{arith}
 use Rattle.tables.specs.Laws.Masks.{shl_one}
-use Rattle.masks.specs.Laws.Rules.{inserted_none, inserted_one}
-use borrow.Author.Rules.{rules}
-use Rattle.plan_tables.proofs.due.add_due.Reads as reads
-use Rattle.plan_tables.proofs.due.add_due.Lts as lts
+use Rattle.masks.specs.Laws.Rules.{inserted_one}
 use Rattle.plan_tables.proofs.due.add_due.Goals as goal
 
 pub returns : goal.returns

@@ -1,8 +1,5 @@
 -- The three cases of the definition.
 use Rattle.plan_tables.specs.Laws.Due.{stage_none, stage_never, stage_here}
-use borrow.Author.Rules.{rules}
-use Rattle.plan_tables.proofs.due.column_stage.Reads as reads
-use Rattle.plan_tables.proofs.due.column_stage.Lts as lts
 use Rattle.plan_tables.proofs.due.column_stage.Goals as goal
 
 pub returns-then-call-ge32 : goal.returns-then-call-ge32

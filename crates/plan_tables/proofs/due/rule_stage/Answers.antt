@@ -1,10 +1,5 @@
 -- The largest of the four.
 use Rattle.plan_tables.specs.Laws.Due.{stage_is}
-use borrow.Author.Rules.{rules}
-use Rattle.plan_tables.proofs.due.rule_stage.Reads as reads
-use Rattle.plan_tables.proofs.due.rule_stage.Lts as lts
-use Rattle.plan_tables.proofs.due.column_stage.Reads as column-stage-reads
-use Rattle.plan_tables.proofs.due.larger.Reads as larger-reads
 use Rattle.plan_tables.proofs.due.rule_stage.Goals as goal
 
 pub returns : goal.returns

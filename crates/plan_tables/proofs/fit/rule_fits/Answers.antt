@@ -1,6 +1,5 @@
 -- The word is that of the plan's slots for the rule's columns.
 use Rattle.plan_tables.specs.Laws.Fit.{fitted_by_lem}
-use borrow.Author.Rules.{rules}
 use Rattle.plan_tables.proofs.fit.rule_fits.Goals as goal
 
 pub returns : goal.returns

@@ -1,13 +1,6 @@
 -- The rules that are taken out of the mask fit.
 use mathlib.Core.Path.{sym, ◌∙◌}
-use Prim.Native.Nat.{◌-◌, ◌<◌}
-use native.Mathlib.Omega.{arith}
-use lib.Bits.{and_le_r}
-use lib.Count.{count_trailing_zeros}
-use Rattle.tables.specs.Laws.Left.{left_lowest}
-use Rattle.plan_tables.specs.Laws.Fit.{FitSoFar, fit_start, fit_more, fit_all, fit_fails}
-use borrow.Author.Tests.{not-true, not-false}
-use borrow.Author.Rules.{rules}
+use Rattle.plan_tables.specs.Laws.Fit.{fit_more, fit_all, fit_fails}
 use Rattle.plan_tables.proofs.fit.rules_fit.Goals as goal
 
 pub returns-then-not-rule_fits : goal.returns-then-not-rule_fits

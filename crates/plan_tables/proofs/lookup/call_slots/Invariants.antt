@@ -2,15 +2,9 @@
 use mathlib.Core.Path.{◌≡◌}
 use mathlib.Core.List.{[]}
 use Prim.Native.Nat.{◌-◌, ◌≤◌}
-use native.Mathlib.Omega.{arith}
 use Rattle.layout.specs.Memory.{state_of_parts}
 use Rattle.plan_model.specs.Plans.{slots_on_in}
 use Rattle.plan_tables.specs.Lookup.{Entries}
-use Rattle.plan_tables.specs.Laws.Lookup.{entries_none, entries_more, entries_all}
-use borrow.Author.Rules.{rules}
-use Rattle.plan_tables.proofs.lookup.call_slots.Reads as reads
-use Rattle.plan_tables.proofs.lookup.call_slots.Lts as lts
-use Rattle.plan_fit.proofs.calls.slots_for.Reads as slots-for-reads
 use Rattle.plan_tables.proofs.lookup.call_slots.Given as goal
 
 abbrev pub invariant-loop-c : goal.invariant-loop-c

@@ -1,10 +1,6 @@
 -- The calls before c have their entries.
-use mathlib.Core.Path.{◌≡◌, refl, ◌∙◌}
 use Prim.Native.Nat.{◌-◌, ◌≤◌}
-use native.Mathlib.Omega.{arith}
 use Rattle.plan_tables.specs.Lookup.{CallTable}
-use Rattle.plan_tables.specs.Laws.Lookup.{table_none, table_more}
-use borrow.Author.Rules.{rules}
 use Rattle.plan_tables.proofs.lookup.call_table.Given as goal
 
 abbrev pub invariant-loop-c : goal.invariant-loop-c

@@ -1,15 +1,9 @@
 -- The calls before c have their masks.
 use mathlib.Core.Path.{◌≡◌}
 use Prim.Native.Nat.{◌-◌, ◌≤◌}
-use native.Mathlib.Omega.{arith}
 use Rattle.tables.specs.Masks.{IsMask}
 use Rattle.layout.specs.Places.{cause_of}
 use Rattle.plan_tables.specs.Lookup.{Entries}
-use Rattle.plan_tables.specs.Laws.Lookup.{entries_none, entries_more, entries_all}
-use borrow.Author.Rules.{rules}
-use Rattle.plan_tables.proofs.lookup.open_masks.Reads as reads
-use Rattle.plan_tables.proofs.lookup.open_masks.Lts as lts
-use Rattle.masks.proofs.slots.slots_with.Reads as slots-with-reads
 use Rattle.plan_tables.proofs.lookup.open_masks.Given as goal
 
 abbrev pub invariant-loop-c : goal.invariant-loop-c

@@ -1,10 +1,6 @@
 -- The rules before p have their words.
-use mathlib.Core.Path.{◌≡◌}
-use Prim.Native.Nat.{◌-◌, ◌≤◌}
 use native.Mathlib.Omega.{arith}
-use Rattle.plan_tables.specs.Lookup.{RowWords}
-use Rattle.plan_tables.specs.Laws.Lookup.{all_none, all_more}
-use borrow.Author.Rules.{rules}
+use Rattle.plan_tables.specs.Laws.Lookup.{all_more}
 use Rattle.plan_tables.proofs.lookup.row_words.Goals as goal
 
 pub loop-p-preserved : goal.loop-p-preserved

@@ -1,10 +1,6 @@
 -- The rows before w are words.
-use mathlib.Core.Path.{◌≡◌, refl}
 use Prim.Native.Nat.{◌-◌, ◌≤◌}
-use native.Mathlib.Omega.{arith}
 use Rattle.plan_tables.specs.Lookup.{WordsMade}
-use Rattle.plan_tables.specs.Laws.Lookup.{words_none, words_more}
-use borrow.Author.Rules.{rules}
 use Rattle.plan_tables.proofs.lookup.rule_words.Given as goal
 
 abbrev pub invariant-loop-w : goal.invariant-loop-w

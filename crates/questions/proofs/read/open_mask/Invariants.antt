@@ -1,10 +1,7 @@
 -- The loop's invariant: the slots below s are in the mask. Each round adds slot s, by its weight.
 use Prim.Native.Nat.{◌-◌}
-use native.Mathlib.Omega.{arith}
-use borrow.Author.Rules.{rules}
 use Rattle.model.specs.Report.{open?}
 use Rattle.questions.specs.Mask.{SummedTo}
-use Rattle.questions.proofs.Laws.Mask.{summed_none, summed_more, summed_fits, summed_all}
 use Rattle.questions.proofs.read.open_mask.Given as goal
 
 abbrev pub invariant-loop-s : goal.invariant-loop-s

@@ -1,15 +1,10 @@
 -- The loop's invariant: none of the rows passed supports the slot, so the first that does is the first of all.
-use mathlib.Core.Path.{◌≡◌, sym}
+use mathlib.Core.Path.{◌≡◌}
 use mathlib.Core.Bool.{Bool, false}
 use Prim.Native.Nat.{ℕ, ◌≤◌, ◌-◌}
-use native.Mathlib.Numerals.{add-one}
-use native.Mathlib.Omega.{arith}
-use borrow.Author.Rules.{rules}
 use mathlib.Core.List.{List, []}
 use Rattle.model.specs.Tests.{some?}
 use Rattle.model.specs.Questions.{supports?}
-use Rattle.model.proofs.Laws.Tests.{→T}
-use Rattle.model.proofs.Laws.Questions.{first_none, first_found}
 use Rattle.layout.specs.Memory.{state_of_parts}
 use Rattle.questions.proofs.read.supporting_row.Given as goal
 

@@ -1,9 +1,7 @@
 -- One slot more is counted with each round.
 use Prim.Native.Nat.{◌-◌, ◌≤◌}
-use native.Mathlib.Omega.{arith}
-use borrow.Author.Rules.{rules}
 use Rattle.model.specs.Report.{open?}
-use Rattle.model.proofs.Laws.Counts.{CountTo, count_to_none, count_to_more, count_to_at}
+use Rattle.model.proofs.Laws.Counts.{CountTo}
 use Rattle.summary_counts.proofs.figures.open_count.Given as goal
 
 abbrev pub invariant-loop-s : goal.invariant-loop-s

@@ -1,11 +1,6 @@
 -- One slot more is counted with each round.
-use mathlib.Core.Path.{◌∙◌, ap}
-use mathlib.Core.Bool.{Bool, cond}
-use Prim.Native.Nat.{◌-◌, ◌/◌, ◌%◌, ◌≤◌}
 use native.Mathlib.Omega.{arith}
-use borrow.Author.Rules.{rules}
-use Rattle.model.specs.Report.{open?}
-use Rattle.model.proofs.Laws.Counts.{CountTo, count_to_none, count_to_more, count_to_at, open_place}
+use Rattle.model.proofs.Laws.Counts.{count_to_at}
 use Rattle.summary_counts.proofs.figures.open_total.Goals as goal
 
 pub returns : goal.returns

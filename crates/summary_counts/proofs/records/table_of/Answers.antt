@@ -1,8 +1,6 @@
 -- One record more is made with each round.
-use Prim.Native.Nat.{◌-◌, ◌≤◌}
 use native.Mathlib.Omega.{arith}
-use borrow.Author.Rules.{rules}
-use Rattle.summary_counts.specs.Laws.Records.{RecordsTo, records_none, records_more, records_counted}
+use Rattle.summary_counts.specs.Laws.Records.{records_more, records_counted}
 use Rattle.summary_counts.proofs.records.table_of.Goals as goal
 
 pub loop-c-preserved : goal.loop-c-preserved

@@ -1,8 +1,6 @@
 -- One record more is made with each round.
 use Prim.Native.Nat.{◌-◌, ◌≤◌}
-use native.Mathlib.Omega.{arith}
-use borrow.Author.Rules.{rules}
-use Rattle.summary_counts.specs.Laws.Records.{RecordsTo, records_none, records_more, records_counted}
+use Rattle.summary_counts.specs.Laws.Records.{RecordsTo}
 use Rattle.summary_counts.proofs.records.table_of.Given as goal
 
 abbrev pub invariant-loop-c : goal.invariant-loop-c

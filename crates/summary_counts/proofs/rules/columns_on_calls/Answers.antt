@@ -1,11 +1,7 @@
 -- One rule more is counted with each round.
 use mathlib.Core.Path.{refl}
-use mathlib.Core.Logic.{⊎_elim}
-use Prim.Native.Nat.{◌-◌, ◌≤◌}
 use native.Mathlib.Omega.{arith}
-use Rattle.summary_counts.specs.Rules.{ColumnsTo}
-use Rattle.summary_counts.specs.Laws.Rules.{added_bare, on_calls_none, on_calls_more, on_calls_at, on_calls_most}
-use borrow.Author.Rules.{rules}
+use Rattle.summary_counts.specs.Laws.Rules.{added_bare, on_calls_none, on_calls_more, on_calls_most}
 use Rattle.summary_counts.proofs.rules.columns_on_calls.Goals as goal
 use Rattle.summary_counts.proofs.rules.columns_on_calls.Goals.{then-n-gt0, else-n-gt0}
 
@@ -18,7 +14,7 @@ loop-q-preserved c =
     let scope = c.args.scope.now in (
       omega arith,
       elim c.if-n-gt0.branch [
-        then-n-gt0 w ↦ rw w.on-is (on_calls_more so_far refl w.add_rule.ensures)
+        | then-n-gt0 w ↦ rw w.on-is (on_calls_more so_far refl w.add_rule.ensures)
         | else-n-gt0 w ↦ let none = w.if-n-gt0.false in rw w.on-is (on_calls_more so_far refl (added_bare scope _ _ _ (omega arith)))
       ],
     )

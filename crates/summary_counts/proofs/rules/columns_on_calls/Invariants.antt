@@ -1,11 +1,6 @@
 -- One rule more is counted with each round.
-use mathlib.Core.Path.{refl}
-use mathlib.Core.Logic.{⊎_elim}
 use Prim.Native.Nat.{◌-◌, ◌≤◌}
-use native.Mathlib.Omega.{arith}
 use Rattle.summary_counts.specs.Rules.{ColumnsTo}
-use Rattle.summary_counts.specs.Laws.Rules.{added_bare, on_calls_none, on_calls_more, on_calls_at, on_calls_most}
-use borrow.Author.Rules.{rules}
 use Rattle.summary_counts.proofs.rules.columns_on_calls.Given as goal
 
 abbrev pub invariant-loop-q : goal.invariant-loop-q

@@ -4,11 +4,7 @@ use Prim.Native.Nat.{ℕ, ◌+◌}
 use Rattle.layout.specs.Names.{fresh_marked}
 use Rattle.layout.specs.Laws.Names.{no_names_size}
 use Rattle.berth.specs.Version.{board_size}
-use Rattle.berth.proofs.berth_value_size.Statement.{statement}
-use Rattle.berth.proofs.berth_value_size.Tie as tie
+use Rattle.berth.proofs.berth_value_size.Goals as goal
 
-returns : tie.Need-returns
+pub returns : goal.returns
 returns c = ap (λ (n : ℕ). board_size fresh_marked.value + n) (sym no_names_size)
-
-pub berth-value-size-spec : {M : Type 1} → statement M
-berth-value-size-spec = tie.close (tie.spec returns)
