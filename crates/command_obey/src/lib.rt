@@ -1,6 +1,7 @@
 // Commands that have been read: each is obeyed by the function of its kind.
 // Proved: what the kind answers and leaves is what specs/Promise.antt of the crate model says. Assumed: nothing.
 #![tactic(auto)]
+
 ghost use Rattle.std.specs.Prelude.{◌≡◌, length};
 ghost use Rattle.command_obey.specs.Obeys.{Obeys, MakesAnew};
 ghost use Rattle.layout.specs.Bounds.{Sizes};

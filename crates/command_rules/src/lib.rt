@@ -2,5 +2,6 @@
 // holds.
 // Proved: what each answers and leaves is what specs/Promise.antt of the crate model says; all of it is safe on any contents. Assumed: nothing.
 #![tactic(auto)]
+
 pub mod post; // kind 4
 pub mod retract; // kind 5

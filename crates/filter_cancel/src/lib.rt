@@ -3,6 +3,7 @@
 // Proved: it is safe and ends on any contents of the buffers, and on a stored board it leaves the board stored with the call cancelled (specs/Stored.antt).
 // Assumed: nothing.
 #![tactic(auto)]
+
 ghost use Rattle.std.specs.Prelude.{◌≡◌, ◌*◌, ◌≤◌, ◌<◌, length};
 ghost use Rattle.tables.specs.Masks.{flags_of};
 ghost use Rattle.tables.specs.Sweep.{Becomes, Swept};

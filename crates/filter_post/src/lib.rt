@@ -2,6 +2,7 @@
 // Proved: it is safe and ends on any contents of the buffers, and on a stored board it leaves the board stored with the rule (specs/Laws/Stored.antt).
 // Assumed: nothing.
 #![tactic(auto)]
+
 pub mod write; // the bytes of one rule
 
 ghost use Rattle.filter_propagate.specs.Rules.{rules_in};

@@ -11,7 +11,6 @@ use Rattle.model.specs.declared.command.Command.{Command}
 use Rattle.model.specs.declared.command.Command.TheVariants as kind
 use Rattle.model.specs.declared.command.Read.TheVariants as found
 use Rattle.model.specs.declared.command.Decoded.{Decoded}
-use Rattle.model.specs.Board.{Board}
 use Rattle.model.specs.Commands.{kind_of, read_at}
 use Rattle.model.specs.Ledger.{Ledger, none_kept, kept_under, kind_conditions, effect, obey, fresh, lengths}
 use Rattle.model.specs.Representation.{Represents}

@@ -1,6 +1,5 @@
 -- Each arm hands on what the function of its kind promises.
 use native.Mathlib.Omega.{arith}
-use borrow.Author.Rules.{rules}
 use Rattle.command_obey.proofs.Laws.Obeys.{other_obeys, board_obeys, mark_obeys}
 use Rattle.command_obey.proofs.obey.Goals as goal
 

@@ -1,7 +1,6 @@
 -- A call with a struck slot is cancelled with what its slots touched; one without has none in its seed, and is only withdrawn.
-use mathlib.Core.Logic.{inl, inr}
+use mathlib.Core.Logic.{inl}
 use Rattle.filter_cancel.specs.Laws.Done.{struck_seeding, quiet}
-use borrow.Author.Rules.{rules}
 use Rattle.filter_cancel.proofs.cancel.Goals as goal
 
 pub returns-then-calls-eq0 : goal.returns-then-calls-eq0

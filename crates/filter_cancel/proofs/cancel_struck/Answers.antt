@@ -1,8 +1,6 @@
 -- What the call's struck slots touched reopens, the call is withdrawn and propagation follows, and the other calls' slots are counted: `reworked` joins them.
 use Rattle.filter_propagate.specs.Rules.{rules_in}
-use Rattle.filter_relax.proofs.Laws.Relaxed.{relaxed_sizes}
 use Rattle.filter_cancel.specs.Laws.Done.{reworked}
-use borrow.Author.Rules.{rules}
 use Rattle.filter_cancel.proofs.cancel_struck.Goals as goal
 
 pub returns : goal.returns

@@ -1,10 +1,6 @@
 -- One slot byte more is that of a cancelled call in each round.
-use mathlib.Core.Path.{refl}
 use Prim.Native.Nat.{◌≤◌, ◌-◌}
-use native.Mathlib.Omega.{arith}
-use Rattle.tables.specs.Laws.Sweep.{one_set, swept_none, swept_more, swept_at}
 use Rattle.filter_cancel.specs.Done.{Withdrawn}
-use borrow.Author.Rules.{rules}
 use Rattle.filter_cancel.proofs.withdraw.Given as goal
 
 abbrev pub invariant-loop-s : goal.invariant-loop-s

@@ -1,10 +1,7 @@
 -- One killer byte more is 255 in each round.
-use mathlib.Core.Path.{refl}
 use Prim.Native.Nat.{◌*◌, ◌-◌}
-use native.Mathlib.Omega.{arith}
-use borrow.Author.Rules.{rules}
 use Rattle.tables.specs.Sweep.{Becomes}
-use Rattle.filter_post.specs.Laws.Write.{Sweeping, sweep_begins, sweep_stores, sweep_ends}
+use Rattle.filter_post.specs.Laws.Write.{Sweeping}
 use Rattle.filter_retract.proofs.clear_killers.Given as goal
 
 abbrev pub invariant-loop-w : goal.invariant-loop-w

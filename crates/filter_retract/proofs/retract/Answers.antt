@@ -1,8 +1,7 @@
 -- A rule that struck something is retracted with what it touched; one that struck nothing has no slot in its seed, and is only cleared.
-use mathlib.Core.Logic.{inl, inr}
+use mathlib.Core.Logic.{inl}
 use Rattle.filter_propagate.specs.Rules.{rules_in}
 use Rattle.filter_retract.specs.Laws.Done.{caused_seeding, quiet}
-use borrow.Author.Rules.{rules}
 use Rattle.filter_retract.proofs.retract.Goals as goal
 
 pub returns-then-calls-eq0 : goal.returns-then-calls-eq0

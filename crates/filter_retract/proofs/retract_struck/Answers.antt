@@ -1,7 +1,5 @@
 -- What the rule touched reopens, the rule is cleared, and propagation follows: `reworked` joins them.
-use Rattle.filter_relax.proofs.Laws.Relaxed.{relaxed_sizes}
 use Rattle.filter_retract.specs.Laws.Done.{reworked}
-use borrow.Author.Rules.{rules}
 use Rattle.filter_retract.proofs.retract_struck.Goals as goal
 
 pub returns : goal.returns

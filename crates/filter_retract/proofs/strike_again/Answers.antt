@@ -1,6 +1,5 @@
 -- The rule is cleared, in the bytes and in the table of the rules on each call, and propagation follows.
-use Rattle.filter_retract.specs.Laws.Done.{cleared_sizes, cleared_rules, struck_again}
-use borrow.Author.Rules.{rules}
+use Rattle.filter_retract.specs.Laws.Done.{struck_again}
 use Rattle.filter_retract.proofs.strike_again.Goals as goal
 
 pub returns : goal.returns

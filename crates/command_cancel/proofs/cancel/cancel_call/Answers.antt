@@ -1,6 +1,5 @@
 -- What is refused, and when, is the check's; what a cancellation leaves is the stepped ledger's.
 use mathlib.Core.Path.{sym, ◌∙◌}
-use borrow.Author.Rules.{rules}
 use Rattle.command_cancel.proofs.Laws.Cancels.{cancel_refused, cancel_accepted}
 use Rattle.command_cancel.proofs.cancel.cancel_call.Goals as goal
 

@@ -1,7 +1,6 @@
 -- What is given back of the draft is right on every ledger.
 use Rattle.command_draft.proofs.Laws.Redraft.{redraft_promise}
 use Rattle.command_gap.proofs.Laws.Checks.{gap_right}
-use borrow.Author.Rules.{rules}
 use Rattle.command_gap.proofs.gap.draft_gap.Goals as goal
 
 pub returns : goal.returns

@@ -1,7 +1,6 @@
 -- The place's pair is written behind the others and counted, or passed over.
 use mathlib.Core.Path.{refl}
 use native.Mathlib.Omega.{arith}
-use borrow.Author.Rules.{rules}
 use Rattle.command_gap.proofs.Laws.Pairs.{listed_more, listed_passed_over, listed_few}
 use Rattle.command_gap.proofs.pairs.list_pair.Goals as goal
 

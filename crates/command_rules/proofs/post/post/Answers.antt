@@ -1,6 +1,5 @@
 -- What is refused, and when, is the check's; what a post leaves is the stepped ledger's.
 use mathlib.Core.Path.{sym, ◌∙◌}
-use borrow.Author.Rules.{rules}
 use Rattle.command_rules.proofs.Laws.Changes.{post_refused, post_accepted}
 use Rattle.command_rules.proofs.post.post.Goals as goal
 

@@ -1,6 +1,5 @@
 -- What is refused, and when, is the check's; what a retraction leaves is the stepped ledger's.
 use mathlib.Core.Path.{sym, ◌∙◌}
-use borrow.Author.Rules.{rules}
 use Rattle.command_rules.proofs.Laws.Changes.{retract_refused, retract_accepted}
 use Rattle.command_rules.proofs.retract.retract.Goals as goal
 

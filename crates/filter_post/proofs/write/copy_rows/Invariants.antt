@@ -1,10 +1,7 @@
 -- One row byte more is copied in each round.
-use mathlib.Core.Path.{refl}
 use Prim.Native.Nat.{◌*◌, ◌-◌}
-use native.Mathlib.Omega.{arith}
 use Rattle.filter_post.specs.Write.{Copied}
-use borrow.Author.Rules.{rules}
-use Rattle.filter_post.specs.Laws.Write.{Sweeping, sweep_begins, sweep_stores, sweep_ends}
+use Rattle.filter_post.specs.Laws.Write.{Sweeping}
 use Rattle.filter_post.proofs.write.copy_rows.Given as goal
 
 abbrev pub invariant-loop-i : goal.invariant-loop-i
