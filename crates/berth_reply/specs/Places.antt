@@ -1,5 +1,5 @@
 -- The place of a row's four bytes from the number of them: the question hands back four or none. Assumes nothing.
-use Rattle.std.specs.Prelude.{ℕ, zero, suc, length}
+use Rattle.std.specs.Prelude.{ℕ, zero, suc}
 use Rattle.berth_reply.specs.declared.PlaceReply.{PlaceReply}
 use Rattle.layout.specs.Places.{row_start}
 

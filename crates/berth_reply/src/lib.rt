@@ -1,6 +1,7 @@
 // The answers as C structs: a number, 0 where there is an answer, and the answer's values.
 // Proved: each reply is the one that specs/Replies.antt and specs/Places.antt make of its answer. Assumed: nothing.
 #![tactic(auto)]
+
 ghost use Rattle.std.specs.Prelude.{◌≡◌};
 ghost use Rattle.berth_reply.specs.Replies.{command_reply, replay_reply, slots_reply, state_reply, row_reply, support_reply, plan_reply, first_reply};
 ghost use Rattle.berth_reply.specs.Places.{row_place_reply};

@@ -3,6 +3,7 @@
 // Proved: what the command entry answers and leaves is what specs/Promise.antt of the crate model says, and what a file leaves stands after a list of such commands,
 // of which specs/Laws/Demands.antt has demand 3. Assumed: nothing.
 #![tactic(auto)]
+
 ghost use Rattle.model.specs.Promise.{Promise};
 ghost use Rattle.layout.specs.Memory.{marked_memory, whole_of};
 ghost use Rattle.command_file.specs.Replay.{ReplayPromise};

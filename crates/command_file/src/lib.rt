@@ -3,6 +3,7 @@
 // Proved: what is left stands after the list of the file's commands, each entered as the command entry promises it, and how the file ended is told (specs/Replay.antt); or
 // the file is refused and nothing is changed. Assumed: nothing.
 #![tactic(auto)]
+
 ghost use Rattle.std.specs.Prelude.{◌≡◌, length};
 ghost use Rattle.layout.specs.Bounds.{Sizes};
 ghost use Rattle.layout.specs.Memory.{marked_memory, whole_of};

@@ -2,6 +2,7 @@
 // other refusals, and the records are handed on by value with how many of them are to be stored.
 // Proved: what a command answers and leaves, with its records stored into any table of that length, is what specs/Promise.antt of the crate model says. Assumed: nothing.
 #![tactic(auto)]
+
 ghost use Rattle.std.specs.Prelude.{◌≡◌, length};
 ghost use Rattle.model.specs.Commands.{read_at};
 ghost use Rattle.model.specs.Ledger.{lengths};

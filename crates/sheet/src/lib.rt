@@ -2,6 +2,7 @@
 // with a line for each; then come the lines of the board's calls and of the whole board, and the last line.
 // Proved: what is written is the definition's bytes (model's specs/Sheet.antt), for every input, and no byte behind them is changed. Assumed: nothing.
 #![tactic(auto)]
+
 ghost use Rattle.std.specs.Prelude.{◌≤◌, length};
 ghost use Rattle.sheet.specs.Promise.{SheetPromise};
 ghost use Rattle.sheet.specs.File.{input_lines, Lined};

@@ -1,5 +1,4 @@
 -- The place goes by the number of bytes that the question hands back.
-use borrow.Author.Rules.{rules}
 use Rattle.berth_reply.specs.Laws.Places.{place_replied}
 use Rattle.berth.proofs.berth_row_place.Goals as goal
 

@@ -1,6 +1,4 @@
 -- The buffers are filled first, and the names forgotten; the file is taken on them, and the records are counted once.
-use native.Mathlib.Omega.{arith}
-use borrow.Author.Rules.{rules}
 use Rattle.command_file.specs.Laws.Replay.{fresh_is, file_counted}
 use Rattle.command_file.proofs.run_file.Goals as goal
 

@@ -1,13 +1,6 @@
 -- The loop keeps what `TakenTo` says: what was entered and what is left are all of the file. A round reads on, so the measure falls.
-use mathlib.Core.Path.{◌≡◌, refl}
-use Prim.Native.Nat.{◌-◌}
-use native.Mathlib.Omega.{arith}
-use lib.ListN.{length}
+use mathlib.Core.Path.{refl}
 use borrow.Author.Rules.{rules}
-use Rattle.layout.specs.Bounds.{Sizes}
-use Rattle.layout.specs.Memory.{state_of, marked_of}
-use Rattle.layout.specs.Sizes.{marks_length}
-use Rattle.command_file.specs.Replay.{TakenTo}
 use Rattle.command_file.specs.Laws.Replay.{taken_none, taken_more, file_taken}
 use Rattle.command_file.proofs.take_all.Goals as goal
 

@@ -1,14 +1,11 @@
 -- The loop keeps what `TakenTo` says: what was entered and what is left are all of the file. A round reads on, so the measure falls.
-use mathlib.Core.Path.{◌≡◌, refl}
+use mathlib.Core.Path.{◌≡◌}
 use Prim.Native.Nat.{◌-◌}
-use native.Mathlib.Omega.{arith}
 use lib.ListN.{length}
-use borrow.Author.Rules.{rules}
 use Rattle.layout.specs.Bounds.{Sizes}
 use Rattle.layout.specs.Memory.{state_of, marked_of}
 use Rattle.layout.specs.Sizes.{marks_length}
 use Rattle.command_file.specs.Replay.{TakenTo}
-use Rattle.command_file.specs.Laws.Replay.{taken_none, taken_more, file_taken}
 use Rattle.command_file.proofs.take_all.Given as goal
 
 abbrev pub invariant-loop-position : goal.invariant-loop-position

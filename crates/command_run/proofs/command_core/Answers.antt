@@ -1,11 +1,6 @@
 -- The lengths are tested first, of the buffers and of the table; then the command is obeyed, and its records are counted.
 use mathlib.Core.Path.{refl, sym, ◌∙◌}
-use native.Mathlib.Omega.{arith}
-use lib.ListN.{length}
-use Rattle.model.proofs.Laws.Shapes.{lent_sizes, marks_size}
-use Rattle.layout.specs.Sizes.{Lent}
-use Rattle.command_run.specs.Laws.Store.{stores_lengths, stores_table, stores_done}
-use borrow.Author.Rules.{rules}
+use Rattle.command_run.specs.Laws.Store.{stores_table, stores_done}
 use Rattle.command_run.proofs.command_core.Goals as goal
 
 pub returns-then-n-ne-RECORDS : goal.returns-then-n-ne-RECORDS

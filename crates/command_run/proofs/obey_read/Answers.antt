@@ -1,6 +1,5 @@
 -- What is refused is by its form; what is obeyed is by its kind.
 use mathlib.Core.Path.{refl}
-use borrow.Author.Rules.{rules}
 use Rattle.model.specs.Ledger.{lengths}
 use Rattle.model.proofs.Laws.Entry.{refused_end, refused_read, refused_left_over}
 use Rattle.command_obey.proofs.Laws.Obeys.{obeys_promise}

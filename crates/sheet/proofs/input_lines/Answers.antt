@@ -1,5 +1,4 @@
 -- An input that is too long has one line; any other has those of its commands and its board.
-use borrow.Author.Rules.{rules}
 use Rattle.sheet.specs.Laws.Whole.{too_long, not_long}
 use Rattle.sheet.proofs.input_lines.Goals as goal
 

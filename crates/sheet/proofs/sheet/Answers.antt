@@ -1,6 +1,5 @@
 -- A buffer that is too short is refused; in any other the last line is written behind the others.
-use borrow.Author.Rules.{rules}
-use Rattle.sheet.specs.Laws.Whole.{sheet_refused, sheet_written}
+use Rattle.sheet.specs.Laws.Whole.{sheet_written}
 use Rattle.sheet.proofs.sheet.Goals as goal
 
 pub returns : goal.returns

@@ -1,5 +1,4 @@
 -- The calls are at most 32, and each has a line of at most 91 bytes; behind them there is room for the line of the whole. Where there is no call nothing is written.
-use mathlib.Core.Path.{◌∙◌}
 use Rattle.sheet.specs.Laws.File.{calls_most, calls_room, none_appended, total_asks, board_appended}
 use Rattle.sheet.proofs.file.board_lines.Goals as goal
 
@@ -14,8 +13,8 @@ call_lines-listed-requires c =
 pub total_line-requires : goal.total_line-requires
 total_line-requires c =
     let both =
-        total_asks c.args.counts.now c.requires.counts_len _ c.call_count-n.ensures c.args.slots.now _ c.open_total-total.ensures
-        c.call_lines-listed.ensures c.requires.room in
+    total_asks c.args.counts.now c.requires.counts_len _ c.call_count-n.ensures c.args.slots.now _ c.open_total-total.ensures
+    c.call_lines-listed.ensures c.requires.room in
     record { room = both.0; total_lt_decimal_end = both.1 }
 
 pub returns : goal.returns

@@ -1,5 +1,4 @@
 -- The arrays and the value are the fresh state's.
-use borrow.Author.Rules.{rules}
 use Rattle.layout.specs.Laws.Memory.{filled}
 use Rattle.layout.specs.Sizes.{marks_length}
 use Rattle.model.proofs.Laws.Fresh.{fresh_marked_lem}

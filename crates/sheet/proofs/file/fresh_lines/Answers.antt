@@ -1,12 +1,7 @@
 -- The loop keeps what `Reached` says: what is written and what is left to be written are all of the lines. A round reads on, so the measure falls.
-use mathlib.Core.Path.{refl, sym, ◌∙◌}
-use Prim.Native.Nat.{◌-◌}
+use mathlib.Core.Path.{refl}
 use native.Mathlib.Omega.{arith}
-use lib.ListN.{length}
-use borrow.Author.Rules.{rules}
-use Rattle.sheet.specs.File.{Reached}
-use Rattle.sheet.specs.Laws.File.{reached_start, reached_held, reads_on, reached_advance, advance_room, board_room, reached_end}
-use Rattle.layout.specs.Memory.{state_of, marked_of}
+use Rattle.sheet.specs.Laws.File.{reached_start, reads_on, reached_advance, reached_end}
 use Rattle.sheet.proofs.file.fresh_lines.Goals as goal
 
 pub loop-progress-init : goal.loop-progress-init
