@@ -59,6 +59,7 @@ pub fn redraft(counts: &[u8; 32], slots: &[u8], draft: Draft, head: Head) -> Red
     Redrafted { number, draft }
 }
 
+#[inline(never)]
 pub fn start_draft(value: Value, head: Head, slots: &[u8]) -> Outcome
     ensures { StartsDraft value slots.now head result }
 {

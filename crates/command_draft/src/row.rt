@@ -81,6 +81,7 @@ pub fn redraft(counts: &[u8; 32], draft: Draft, row: Row) -> Redrafted
     Redrafted { number, draft }
 }
 
+#[inline(never)]
 pub fn add_row(value: Value, row: Row) -> Outcome
     ensures { AddsRow value row result }
 {

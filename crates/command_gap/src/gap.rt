@@ -30,6 +30,7 @@ pub fn redraft(counts: &[u8; 32], slots: &[u8], draft: Draft, f: GapRule) -> Red
     Redrafted { number, draft: new }
 }
 
+#[inline(never)]
 pub fn draft_gap(value: Value, f: GapRule, slots: &[u8]) -> Outcome
     ensures { DraftPromise value slots.now (kind.Gap f) result }
 {

@@ -12,7 +12,7 @@ use layout::value::bad_lengths;
 use model::refusal::{BUFFER_LENGTH, NO_BOARD, or_refuse};
 use plan_search::answer::{FirstPlan, PlanAnswer};
 use plan_tables::due::due_rules;
-use plan_tables::lookup::{WORDS, call_slots, call_table, open_masks, row_words, rule_columns};
+use plan_tables::lookup::{WORDS, call_slots, call_table, open_masks, rule_columns, write_words};
 
 // What a search ended with: the plan, where one is found, and the trials.
 #[derive(Clone, Copy)]
@@ -90,7 +90,8 @@ pub fn lay_plan(
 {
     let columns = rule_columns(arity, scope, slots);
     let calls = calls_of(counts, slots, &columns);
-    let words = row_words(rows, lengths, &columns);
+    let mut words = [0u32; WORDS];
+    write_words(rows, lengths, &columns, &mut words);
     lay_all(&words, lengths, &columns, &calls, ceiling)
 }
 

@@ -104,18 +104,26 @@ fn rule_words(rows: &[u8], held: usize, p: usize, mask: u32, words: &mut [u32; W
     }
 }
 
-// The rows of every rule as words, with 0 in the columns that do not count: rule p's from 64 * p on.
+// Writes the rows of every rule as words, with 0 in the columns that do not count: rule p's from 64 * p on. The words are lent, since they are half of a search's stack.
+pub fn write_words(rows: &[u8], lengths: &[u8; 64], columns: &[u8; 256], words: &mut [u32; WORDS])
+    requires { length rows.now ≡ rows_length }
+    ensures { RowWords rows.now lengths.now columns.now 64 words.new }
+{
+    let mut p = 0;
+    while p < 64 {
+        let held = cap(lengths[p], 64);
+        let mask = column_mask(columns_at(columns, p));
+        rule_words(rows, held, p, mask, words);
+        p += 1;
+    }
+}
+
+// The same words as a table.
 pub fn row_words(rows: &[u8], lengths: &[u8; 64], columns: &[u8; 256]) -> [u32; WORDS]
     requires { length rows.now ≡ rows_length }
     ensures { RowWords rows.now lengths.now columns.now 64 result }
 {
     let mut words = [0u32; WORDS];
-    let mut p = 0;
-    while p < 64 {
-        let held = cap(lengths[p], 64);
-        let mask = column_mask(columns_at(columns, p));
-        rule_words(rows, held, p, mask, &mut words);
-        p += 1;
-    }
+    write_words(rows, lengths, columns, &mut words);
     words
 }

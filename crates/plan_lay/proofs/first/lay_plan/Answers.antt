@@ -8,4 +8,4 @@ use Rattle.plan_lay.proofs.first.lay_plan.Goals as goal
 pub returns : goal.returns
 returns c =
     laid_plan (state_of_parts c.args.counts.now c.args.arity.now c.args.scope.now c.args.lengths.now c.args.rows.now [] c.args.slots.now) c.args.ceiling c.lay_all.result
-    c.rule_columns-columns.ensures c.calls_of-calls.ensures c.row_words-words.ensures (λ j. omega (arith, c.shared_slice_known-1.given j)) c.lay_all.ensures
+    c.rule_columns-columns.ensures c.calls_of-calls.ensures c.write_words.ensures (λ j. omega (arith, c.shared_slice_known-1.given j)) c.lay_all.ensures

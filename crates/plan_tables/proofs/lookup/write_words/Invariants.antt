@@ -1,7 +1,7 @@
 -- The rules before p have their words.
 use Prim.Native.Nat.{◌-◌, ◌≤◌}
 use Rattle.plan_tables.specs.Lookup.{RowWords}
-use Rattle.plan_tables.proofs.lookup.row_words.Given as goal
+use Rattle.plan_tables.proofs.lookup.write_words.Given as goal
 
 abbrev pub invariant-loop-p : goal.invariant-loop-p
 invariant-loop-p l = (l.p ≤ 64) × RowWords l.rows l.lengths l.columns l.p l.words

@@ -1,7 +1,7 @@
 -- The rules before p have their words.
 use native.Mathlib.Omega.{arith}
 use Rattle.plan_tables.specs.Laws.Lookup.{all_more}
-use Rattle.plan_tables.proofs.lookup.row_words.Goals as goal
+use Rattle.plan_tables.proofs.lookup.write_words.Goals as goal
 
 pub loop-p-preserved : goal.loop-p-preserved
 loop-p-preserved c =
