@@ -93,9 +93,9 @@ extern "C" {
 
 /*
  * The stack that a call needs, with the copies of the value that the questions are handed. It is measured and not proved, on x86-64. berth_first_plan alone
- * needs so much: on the board where its way down is longest, hosts/stack.c found 23,928 bytes where it was compiled without optimisation, and 23,896 with -O2
- * and with -O3. Over every other function and the commands of a full board it found 6,216, the most, 6,120 and 6,120: for a host that never asks for a plan,
- * 12,288 are enough. That the search needs no more rests on the compiler of the library, which makes a loop of the step from slot to slot; each run of the gate
+ * needs so much: on the board where its way down is longest, hosts/stack.c found 23,232 bytes. Over every other function and the commands of a full board it
+ * found 11,800, the most: for a host that never asks for a plan, 12,288 are enough. That the search needs no more rests on the compiler of the library, which
+ * makes a loop of the step from slot to slot, and keeps the words of the rows once; each run of the gate
  * measures both again.
  */
 #define BERTH_STACK 32768
