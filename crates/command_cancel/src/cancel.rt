@@ -4,20 +4,20 @@ ghost use Rattle.command_cancel.specs.Checks.{cancel_checks};
 ghost use Rattle.command_cancel.specs.Cancels.{CallCancelled, CancelPromise};
 ghost use Rattle.layout.specs.Bounds.{Sizes};
 ghost use Rattle.layout.specs.Memory.{memory};
-ghost use Rattle.model.specs.Refusals.{first_of};
+ghost use Rattle.model.specs.Refusals.{first_of, number_of};
 
 use layout::places::{byte_at, cap, is_cancelled};
 use layout::value::Value;
 use model::answer::Outcome;
-use model::refusal::{ALREADY_CANCELLED, NO_BOARD, NO_CALL, or_refuse};
+use model::refusal::Refusal;
 
-// The number of the first refusal that holds, or 0 for none.
-pub fn check_cancel(counts: &[u8; 32], slots: &[u8], call: u8) -> u8
-    ensures { result ≡ first_of (cancel_checks counts.now slots.now call) }
+// The first refusal that holds.
+pub fn check_cancel(counts: &[u8; 32], slots: &[u8], call: u8) -> Result<(), Refusal>
+    ensures { number_of result ≡ first_of (cancel_checks counts.now slots.now call) }
 {
-    let n = or_refuse(0, counts[0] == 0, NO_BOARD);
-    let n = or_refuse(n, byte_at(counts, call as usize) == 0, NO_CALL);
-    or_refuse(n, is_cancelled(slots, call), ALREADY_CANCELLED)
+    Refusal::NoBoard.when(counts[0] == 0)?;
+    Refusal::NoCall.when(byte_at(counts, call as usize) == 0)?;
+    Refusal::AlreadyCancelled.when(is_cancelled(slots, call))
 }
 
 // The call is cancelled, whatever stands there. It is taken modulo 32, so that any byte names one.
@@ -57,11 +57,8 @@ pub fn cancel_call(
         call (memory value rows.now killers.old slots.old) result.answer
         (memory result.value rows.now killers.new slots.new) }
 {
-    let heads = value.heads;
-    let counts = heads.counts;
-    let n = check_cancel(&counts, slots, call);
-    if n != 0 {
-        return Outcome::refused(n, value);
+    if let Err(refusal) = check_cancel(&value.heads.counts, slots, call) {
+        return Outcome::refused(refusal, value);
     }
     cancel_unchecked(value, call, rows, killers, slots)
 }
