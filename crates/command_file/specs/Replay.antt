@@ -138,5 +138,5 @@ pub record FileCounted (first file : List ℕ) (number ran : ℕ) (w : Whole) : 
   pub end : number ≡ file_end file
 
 -- a file that is refused: nothing was run, and nothing is to be stored
-abbrev pub none_replayed : ℕ → Value → ReplayDone
-none_replayed n value = record { replayed = record { value = value; ran = 0; number = n }; count = 0; table = no_table }
+abbrev pub none_replayed : Refusal → Value → ReplayDone
+none_replayed e value = record { replayed = record { value = value; ran = 0; ended = Err e }; table = None }
