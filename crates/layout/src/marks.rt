@@ -17,8 +17,5 @@ pub fn bad_buffers(rows: &[u8], killers: &[u8], slots: &[u8], marks: &[u8]) -> b
         (record { rows = length rows.entry.now; killers = length killers.now; slots = length slots.now })
         (length marks.now) }
 {
-    if bad_lengths(rows, killers, slots) {
-        return true;
-    }
-    marks.len() != MARKS
+    bad_lengths(rows, killers, slots) || marks.len() != MARKS
 }

@@ -1,17 +1,18 @@
 -- WHAT A QUESTION'S FUNCTION SHOWS of its answer, to meet its promise: where the number n of its checks is not 0 the answer is that refusal, and where n is
 -- 0 the answer is read off the bytes. Assumes nothing.
-use Rattle.std.specs.Prelude.{◌≡◌, refl, Bool, true, false, cond, [], ◌≢◌, ℕ, ◌+◌, ◌*◌, take, drop, eqb}
-use Rattle.std.proofs.Common.{sym, subst, ◌∙◌, arith, le-ltb}
+use Rattle.std.specs.Prelude.{◌≡◌, refl, Bool, true, false, cond, [], ◌≢◌, ℕ, ◌+◌, ◌*◌, ◌<◌, take, drop, eqb}
+use Rattle.std.proofs.Common.{sym, subst, ◌∙◌, arith, le-ltb, lt-ltb}
 use Rattle.std.specs.Int.Count.{ones}
 use Rattle.model.specs.declared.answer.OpenSlots.TheVariants as slots
 use Rattle.model.specs.declared.answer.SlotState.TheVariants as state
 use Rattle.model.specs.declared.answer.RowState.TheVariants as row
 use Rattle.model.specs.declared.answer.Support.{Support}
 use Rattle.model.specs.declared.answer.Support.TheVariants as support
-use Rattle.model.specs.Tests.{first}
+use Rattle.model.specs.Tests.{first, some?}
 use Rattle.model.specs.Report.{open?}
 use Rattle.model.specs.Questions.{call_checks, slot_checks, row_checks, support_checks, mask_of, slots_by, SlotsPromise, state_by, StatePromise, row_by, RowPromise, bytes_by, RowBytesPromise, supports?, column_cancelled?, support_row, found_row, support_by, SupportPromise}
-use Rattle.model.proofs.Laws.Questions.{slots_promise, state_promise, row_promise, row_bytes_promise, support_promise}
+use Rattle.model.proofs.Laws.Tests.{→T}
+use Rattle.model.proofs.Laws.Questions.{first_found, first_none, slots_promise, state_promise, row_promise, row_bytes_promise, support_promise}
 use Rattle.layout.specs.Places.{cause_of, killer_of, rows_of, cancelled_byte}
 use Rattle.layout.specs.Memory.{State}
 use Rattle.questions.specs.Parts.{active_support}
@@ -71,6 +72,12 @@ module _ (s : State) {n : ℕ} where
       rw (le-ltb m m (omega arith)) at
       (subst (λ (b : Bool). SupportPromise s p k t (found_row m (cond b m (first m (supports? s p k t))))) off (support_found p k t e z))
 
--- a row that was searched for among all of the rule's is its support in an active column
-pub row_found : (s : State) (p k t : ℕ) {m w : ℕ} → m ≡ rows_of s.value.heads.lengths p → w ≡ first m (supports? s p k t) → found_row m w ≡ active_support s p k t
-row_found s p k t e h = rw (h, e) refl
+-- the support in an active column: a row that supports the slot, where none before it does; and none, where no row of the rule does
+module _ (s : State) (p k t : ℕ) where
+  pub row_found : {w : ℕ} → w < rows_of s.value.heads.lengths p → supports? s p k t w ≡ true → some? w (supports? s p k t) ≡ false → support.Row w ≡ active_support s p k t
+  row_found {w} h found before =
+      let m = rows_of s.value.heads.lengths p in
+      rw (first_found m (supports? s p k t) w h (→T (supports? s p k t w) found) before, lt-ltb w m h) refl
+
+  pub none_found : {m : ℕ} → m ≡ rows_of s.value.heads.lengths p → some? m (supports? s p k t) ≡ false → support.Nothing ≡ active_support s p k t
+  none_found {m} e before = rw (← e, first_none m (supports? s p k t) before, le-ltb m m (omega arith)) refl

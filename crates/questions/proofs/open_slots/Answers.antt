@@ -5,8 +5,10 @@ use Rattle.questions.proofs.open_slots.Goals as goal
 
 pub returns-then-refusal-ne0 : goal.returns-then-refusal-ne0
 returns-then-refusal-ne0 c =
-    slots_refused (state_of c.args.value c.args.rows.now c.args.killers.now c.args.slots.now) c.args.call c.call_refusal-refusal.ensures c.if-refusal-ne0.true
+    let a = c.args in
+    slots_refused (state_of a.value a.rows.now a.killers.now a.slots.now) a.call c.call_refusal-refusal.ensures c.if-refusal-ne0.true
 
 pub returns : goal.returns
 returns c =
-    slots_given (state_of c.args.value c.args.rows.now c.args.killers.now c.args.slots.now) c.args.call c.call_refusal-refusal.ensures c.if-refusal-ne0.false c.open_mask-mask.ensures
+    let a = c.args in
+    slots_given (state_of a.value a.rows.now a.killers.now a.slots.now) a.call c.call_refusal-refusal.ensures c.if-refusal-ne0.false c.open_mask-mask.ensures
