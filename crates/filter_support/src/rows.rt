@@ -5,7 +5,7 @@ ghost use Rattle.masks.specs.Columns.{PastEmpty};
 ghost use Rattle.filter_support.specs.Walk.{FirstMeeting, killer_now, alive_set, WithRow, RowWalked, Walked, WalkedColumns};
 
 use layout::value::{KILLERS, ROWS};
-use masks::columns::Columns;
+use masks::columns::{first_columns, Columns};
 
 // The first column where the two sets meet, or 255.
 pub fn first_meeting(a: Columns, b: Columns) -> u8
@@ -95,7 +95,7 @@ pub fn revise_rows(
     found
 }
 
-// The same for a rule of n columns.
+// The same for a rule of n columns. A closure for the walk would not do here: of the killers that it borrows nothing is known after it.
 pub fn revise_columns(
     rows: &[u8; ROWS],
     killers: &mut [u8; KILLERS],
@@ -111,14 +111,12 @@ pub fn revise_columns(
     ensures { WalkedColumns rows.now struck p n m killers.old killers.new result }
 {
     if n < 3 {
-        let two = masks::columns::first_two(struck);
-        let found = revise_rows(rows, killers, two, p, m);
-        return masks::columns::first_two(found);
+        let found = revise_rows(rows, killers, first_columns::<2>(struck), p, m);
+        return first_columns::<2>(found);
     }
     if n < 4 {
-        let three = masks::columns::first_three(struck);
-        let found = revise_rows(rows, killers, three, p, m);
-        return masks::columns::first_three(found);
+        let found = revise_rows(rows, killers, first_columns::<3>(struck), p, m);
+        return first_columns::<3>(found);
     }
     revise_rows(rows, killers, struck, p, m)
 }

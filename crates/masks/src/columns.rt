@@ -1,7 +1,7 @@
 // A set of slots for each column of a rule. The walks over a rule's rows are written once, for four columns; with the spare columns set to 0, and what is found there
 // thrown away, the compiler makes a loop for two columns and one for three of them.
 ghost use Rattle.std.specs.Prelude.{◌≡◌, ◌+◌, ◌%◌, ◌^◌, ◌<◌};
-ghost use Rattle.masks.specs.Columns.{column_of, word_at, RowMasks, first_two, first_three, ColumnSet, ColumnSets};
+ghost use Rattle.masks.specs.Columns.{column_of, word_at, RowMasks, first_columns, ColumnSet, ColumnSets};
 
 use layout::value::ROWS;
 
@@ -30,28 +30,16 @@ pub fn column(x: Columns, k: usize) -> u32
     x.c3
 }
 
-// The first two columns alone.
-pub fn first_two(x: Columns) -> Columns
-    ensures { result ≡ first_two x }
+// The first N columns alone, two at least.
+pub fn first_columns<const N: usize>(x: Columns) -> Columns
+    ensures { result ≡ first_columns N x }
 {
-    let c0 = x.c0;
-    let c1 = x.c1;
     Columns {
-        c0,
-        c1,
-        c2: 0,
-        c3: 0,
+        c0: x.c0,
+        c1: x.c1,
+        c2: if N > 2 { x.c2 } else { 0 },
+        c3: if N > 3 { x.c3 } else { 0 },
     }
-}
-
-// The first three columns alone.
-pub fn first_three(x: Columns) -> Columns
-    ensures { result ≡ first_three x }
-{
-    let c0 = x.c0;
-    let c1 = x.c1;
-    let c2 = x.c2;
-    Columns { c0, c1, c2, c3: 0 }
 }
 
 // A byte as a wider number.
