@@ -18,16 +18,12 @@ pub struct Columns {
 pub fn column(x: Columns, k: usize) -> u32
     ensures { result ≡ column_of x k }
 {
-    if k == 0 {
-        return x.c0;
+    match k {
+        0 => x.c0,
+        1 => x.c1,
+        2 => x.c2,
+        _ => x.c3,
     }
-    if k == 1 {
-        return x.c1;
-    }
-    if k == 2 {
-        return x.c2;
-    }
-    x.c3
 }
 
 // The first N columns alone, two at least.
@@ -64,7 +60,7 @@ pub fn word(rows: &[u8; ROWS], i: usize) -> u32
 pub fn slot_bit(x: u32) -> u32
     ensures { result ≡ 2 ^ (x % 32) }
 {
-    1u32 << (x % 32)
+    1 << (x % 32)
 }
 
 // The slots of row w of rule p, a mask of one for each column.
