@@ -186,11 +186,6 @@ module _ (R : RuleBytes) (killers slots : List ℕ) where
         calls = v.calls a.calls;
       }
 
--- the table of masks keeps its length
-pub closing_size : {R : RuleBytes} {killers slots : List ℕ} {old : List Bool} (visited : List ℕ) {flags pending : List Bool} → Closing R killers slots old (traversal (all_flags 32 visited) flags pending)
-    → length visited ≡ 32
-closing_size visited a = omega (arith, a.sizes.visited.visited_size, all_length 32 visited)
-
 -- where none is pending all is settled
 pub closed : (R : RuleBytes) (killers slots : List ℕ) {old visited flags : List Bool} {pending : ℕ} → pending ≡ 0 → Closing R killers slots old (traversal visited flags (flags_of 64 pending))
     → Closed R killers slots old (traversal visited flags (flags_of 64 0))

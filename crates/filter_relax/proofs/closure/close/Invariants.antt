@@ -9,7 +9,7 @@ use Rattle.filter_relax.proofs.closure.close.Given as goal
 abbrev pub invariant-loop-q : goal.invariant-loop-q
 invariant-loop-q l =
     NextRule l.front.pending l.q
-    × Closing (bytes_of l.rows l.arity l.scope l.lengths) l.killers l.slots (all_flags 32 l.initial.visited) (traversal (all_flags 32 l.visited) (flags_of 32 l.front.calls) (flags_of 64 l.front.pending))
+    × Closing (bytes_of l.rows l.heads.arity l.heads.scope l.heads.lengths) l.killers l.slots (all_flags 32 l.initial.visited) (traversal (all_flags 32 l.visited) (flags_of 32 l.front.calls) (flags_of 64 l.front.pending))
 
 abbrev pub decreases-loop-q : goal.decreases-loop-q
 decreases-loop-q l =

@@ -6,7 +6,7 @@ use Rattle.filter_relax.proofs.Laws.Revive.{RulesRevived}
 use Rattle.filter_relax.proofs.revive.revive_rules.Given as goal
 
 abbrev pub invariant-loop-left : goal.invariant-loop-left
-invariant-loop-left l = RulesRevived (RuleFreed (bytes_of l.rows l.arity l.scope l.lengths) (all_flags 32 l.visited)) l.rules l.left l.initial.killers l.killers
+invariant-loop-left l = RulesRevived (RuleFreed (bytes_of l.rows l.heads.arity l.heads.scope l.heads.lengths) (all_flags 32 l.visited)) l.rules l.left l.initial.killers l.killers
 
 abbrev pub decreases-loop-left : goal.decreases-loop-left
 decreases-loop-left l = l.left
