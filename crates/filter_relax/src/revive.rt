@@ -17,13 +17,7 @@ pub fn killer_left(killer: u8, hit: u32) -> u8
 }
 
 // Row w of rule q.
-pub fn revive_row(
-    rows: &[u8; ROWS],
-    killers: &mut [u8; KILLERS],
-    sets: Columns,
-    q: usize,
-    w: usize,
-)
+pub fn revive_row(rows: &[u8; ROWS], killers: &mut [u8; KILLERS], sets: Columns, q: usize, w: usize)
     requires q_bound { q < 64 }
     requires w_bound { w < 64 }
     ensures { One 0 (MaskRevived rows.now sets q) (64 * q) w killers.old killers.new }
@@ -93,8 +87,8 @@ pub fn revive_rule(
         (RuleFreed (rules_in rows.now heads.now.arity heads.now.scope heads.now.lengths) (all_flags 32 visited.now) q)
         (64 * q) 64 killers.old killers.new }
 {
-    let n = layout::places::cap(heads.arity[q], 4);
-    let m = layout::places::cap(heads.lengths[q], 64);
+    let n = usize::from(heads.arity[q]).min(4);
+    let m = usize::from(heads.lengths[q]).min(64);
     let sets = masks::columns::column_sets(visited, &heads.scope, q, n);
     revive_columns(rows, killers, sets, q, n, m)
 }

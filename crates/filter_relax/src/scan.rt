@@ -219,12 +219,12 @@ pub fn scan_rule(
         (RuleJustifies (rules_in rows.now heads.now.arity heads.now.scope heads.now.lengths) killers.now slots.now q)
         (all_flags 32 visited.old) (all_flags 32 visited.new) result }
 {
-    let n = layout::places::cap(heads.arity[q], 4);
+    let n = usize::from(heads.arity[q]).min(4);
     let wanted = columns_wanted(slots, &heads.scope, visited, q, n);
     if all_empty(wanted) {
         return 0;
     }
-    let m = layout::places::cap(heads.lengths[q], 64);
+    let m = usize::from(heads.lengths[q]).min(64);
     let new = new_slots(rows, killers, &heads.scope, visited, wanted, q, n, m);
     visit_columns(&heads.scope, visited, q, new)
 }

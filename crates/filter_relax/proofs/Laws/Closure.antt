@@ -8,7 +8,7 @@ use Rattle.tables.specs.Masks.{Has, flags_of, all_flags}
 use Rattle.tables.specs.Laws.Assign.{assign_stays}
 use Rattle.tables.specs.Laws.Count.{count_le, count_set}
 use Rattle.tables.specs.Laws.Facts.{true_false, true_or_false, eq_or_ne, lt_or_le}
-use Rattle.tables.specs.Laws.Flags.{flags_length, flag_set, flag_clear, flag_has, all_length}
+use Rattle.tables.specs.Laws.Flags.{flags_length, flag_set, flag_clear, flag_has}
 use Rattle.tables.specs.Laws.Lost.{lost_count, only_same}
 use Rattle.tables.specs.Laws.Masks.{bit_zero, or_left, or_right, or_either}
 use Rattle.masks.specs.Rules.{OnCalls, RulesOn, RulesOnAny, Enqueues}

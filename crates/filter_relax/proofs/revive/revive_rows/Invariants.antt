@@ -6,4 +6,3 @@ use Rattle.filter_relax.proofs.revive.revive_rows.Given as goal
 
 abbrev pub invariant-loop-w : goal.invariant-loop-w
 invariant-loop-w l = Swept 0 (MaskRevived l.rows l.sets l.q) (64 * l.q) l.w l.initial.killers l.killers
-
