@@ -1,8 +1,9 @@
 // A set of slots for each column of a rule. The walks over a rule's rows are written once, for four columns; with the spare columns set to 0, and what is found there
 // thrown away, the compiler makes a loop for two columns and one for three of them.
-ghost use Rattle.std.specs.Prelude.{◌≡◌, ◌+◌, ◌%◌, ◌^◌, ◌<◌, length};
+ghost use Rattle.std.specs.Prelude.{◌≡◌, ◌+◌, ◌%◌, ◌^◌, ◌<◌};
 ghost use Rattle.masks.specs.Columns.{column_of, word_at, RowMasks, first_two, first_three, ColumnSet, ColumnSets};
-ghost use Rattle.layout.specs.Bounds.{InRow};
+
+use layout::value::ROWS;
 
 // A set of slots for each of four columns.
 #[derive(Clone, Copy)]
@@ -61,14 +62,14 @@ pub fn wide(b: u8) -> u32
 }
 
 // The four bytes from i on as one number, the first as its lowest: so that a row is read at once.
-pub fn word(rows: &[u8], i: usize) -> u32
-    requires { i + 3 < length rows.now }
+pub fn word(rows: &[u8; ROWS], i: usize) -> u32
+    requires { i + 3 < ROWS }
     ensures { result ≡ word_at rows.now i }
 {
-    wide(rows[i])
-        + 256 * wide(rows[i + 1])
-        + 65536 * wide(rows[i + 2])
-        + 16777216 * wide(rows[i + 3])
+    u32::from(rows[i])
+        + 256 * u32::from(rows[i + 1])
+        + 65536 * u32::from(rows[i + 2])
+        + 16777216 * u32::from(rows[i + 3])
 }
 
 // The mask of the slot in the lowest byte of a number.
@@ -79,8 +80,9 @@ pub fn slot_bit(x: u32) -> u32
 }
 
 // The slots of row w of rule p, a mask of one for each column.
-pub fn row_slots(rows: &[u8], p: usize, w: usize) -> Columns
-    requires { InRow rows.now p w 4 }
+pub fn row_slots(rows: &[u8; ROWS], p: usize, w: usize) -> Columns
+    requires p_bound { p < 64 }
+    requires w_bound { w < 64 }
     ensures { RowMasks rows.now p w result }
 {
     let x = word(rows, 256 * p + 4 * w);

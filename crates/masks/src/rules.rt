@@ -1,10 +1,11 @@
 // The rules on each call as masks of 64 bits, and the pending rules, those that are to be looked at, as one such mask.
-ghost use Rattle.std.specs.Prelude.{◌≡◌, ◌≤◌, ◌<◌, length};
+ghost use Rattle.std.specs.Prelude.{◌≤◌, ◌<◌};
 ghost use Rattle.masks.specs.Rules.{ColumnRule, ScopeRule, Inserted, RulesOn, RuleDropped, RulesOnAny, Without, Enqueues, NextRule};
+
+use layout::value::Heads;
 
 // Rule q joins the rules on the call of its column k, where that is one of its n.
 pub fn add_column(scope: &[u8; 256], on: &mut [u64; 32], q: usize, n: usize, k: usize)
-    requires on_len { length on.old ≡ 32 }
     requires q_bound { q < 64 }
     requires k_bound { k < 4 }
     ensures { Inserted (ColumnRule scope.now q n k) on.old on.new }
@@ -17,7 +18,6 @@ pub fn add_column(scope: &[u8; 256], on: &mut [u64; 32], q: usize, n: usize, k: 
 
 // The same for its n columns.
 pub fn add_rule(scope: &[u8; 256], on: &mut [u64; 32], q: usize, n: usize)
-    requires on_len { length on.old ≡ 32 }
     requires q_bound { q < 64 }
     requires n_bound { n ≤ 4 }
     ensures { Inserted (ScopeRule scope.now q n) on.old on.new }
@@ -29,17 +29,15 @@ pub fn add_rule(scope: &[u8; 256], on: &mut [u64; 32], q: usize, n: usize)
 }
 
 // The rules on each call.
-pub fn rules_on_calls(arity: &[u8; 64], scope: &[u8; 256]) -> [u64; 32]
-    ensures { RulesOn arity.now scope.now result }
+pub fn rules_on_calls(heads: &Heads) -> [u64; 32]
+    ensures { RulesOn heads.now result }
 {
     let mut on = [0u64; 32];
-    let mut q = 0;
-    while q < 64 {
-        let n = layout::places::cap(arity[q], 4);
+    for q in 0..64 {
+        let n = layout::places::cap(heads.arity[q], 4);
         if n > 0 {
-            add_rule(scope, &mut on, q, n);
+            add_rule(&heads.scope, &mut on, q, n);
         }
-        q += 1;
     }
     on
 }
@@ -54,14 +52,11 @@ pub fn without(rules: u64, p: usize) -> u64
 
 // Rule p leaves the rules on every call.
 pub fn drop_rule(on: &mut [u64; 32], p: usize)
-    requires on_len { length on.old ≡ 32 }
-    requires p_bound { p < 64 }
+    requires { p < 64 }
     ensures { RuleDropped p on.old on.new }
 {
-    let mut c = 0;
-    while c < 32 {
+    for c in 0..32 {
         on[c] = without(on[c], p);
-        c += 1;
     }
 }
 
@@ -87,16 +82,18 @@ pub fn enqueue(on: &[u64; 32], calls: u32, pending: u64, p: usize) -> u64
     without(pending | rules_on(on, calls), p)
 }
 
-// A pending rule, the next one after p going round, or 64 where none is pending. Rules taken in turn are revised less often than lowest first: their calls' other
+// A pending rule, the next one after p going round; none where none is pending. Rules taken in turn are revised less often than lowest first: their calls' other
 // rules have struck by then.
-pub fn next_rule(pending: u64, p: usize) -> usize
+pub fn next_rule(pending: u64, p: usize) -> Option<usize>
     requires { p < 64 }
     ensures { NextRule pending result }
 {
     let above = (pending >> (p as u64)) >> 1;
     if above != 0 {
-        p + 1 + (u64::trailing_zeros(above) as usize)
-    } else {
-        u64::trailing_zeros(pending) as usize
+        return Some(p + 1 + (u64::trailing_zeros(above) as usize));
     }
+    if pending == 0 {
+        return None;
+    }
+    Some(u64::trailing_zeros(pending) as usize)
 }

@@ -1,8 +1,8 @@
 -- The rules on each call, rule by rule; the rules on the calls of a mask; and the pending rules. Assumes nothing.
-use Rattle.std.specs.Prelude.{◌≡◌, refl, List, ◌⊎◌, Bool, true, false, ℕ, ◌+◌, ◌-◌, ◌*◌, ◌/◌, ◌^◌, ◌≤◌, ◌<◌, length, get_or, set, replicate}
+use Rattle.std.specs.Prelude.{◌≡◌, refl, List, ◌⊎◌, Some, Bool, true, false, ℕ, ◌+◌, ◌-◌, ◌*◌, ◌/◌, ◌^◌, ◌≤◌, ◌<◌, length, get_or, set, replicate}
 use Rattle.std.proofs.Common.{sym, ap, ◌∙◌, inl, inr, ⊎_elim, arith, ne_eqb, length-set, get_or-set_same, get_or-set_other}
 use Rattle.std.specs.Int.Bits.{bit_and, bit_or}
-use Rattle.std.specs.Int.Count.{count_trailing_zeros, trailing_of_zero}
+use Rattle.std.specs.Int.Count.{count_trailing_zeros}
 use Rattle.std.proofs.lemmas.List.{length-replicate, get_or-replicate}
 use Rattle.std.proofs.Math.ListN.{get_or-eq_default}
 use Rattle.std.proofs.Math.Pow.{pow-lt}
@@ -33,7 +33,7 @@ use Rattle.tables.specs.Laws.Masks.{
 use Rattle.tables.specs.Laws.Sweep.{one_set, swept_more}
 use Rattle.layout.specs.Places.{call_of, columns_of}
 use Rattle.masks.specs.Laws.Columns.{four}
-use Rattle.masks.specs.Rules.{OnCalls, OnCall, RulesTo, RulesOn, Inserted, ColumnRule, ScopeRule, RuleDropped, OnAny, RulesOnAny, Without, Enqueues, NextRule}
+use Rattle.masks.specs.Rules.{OnCalls, OnCall, RulesTo, Inserted, ColumnRule, ScopeRule, RuleDropped, OnAny, RulesOnAny, Without, Enqueues, NextRule}
 
 -- RULES JOIN CALLS. Where none does, nothing changes
 pub inserted_none : (Q : ℕ → ℕ → Type 0) (l : List ℕ) → ((c s : ℕ) → Q c s → ⊥) → Inserted Q l l
@@ -237,29 +237,19 @@ enqueues {on} {calls} {p} {pending} {rules} {r} lp lq lr x w = record { kept = k
         let g = sym (w.others q (has_below 64 r q lr h) ne) ∙ h in
         (ne, ⊎_elim (λ z. inl z) (λ z. inr (x.only q z)) (or_either pending rules q g))
 
--- the lowest of all is a pending rule, and 64 where there is none
-pub next_lowest : (m : ℕ) → m < 2 ^ 64 → NextRule m (count_trailing_zeros 64 m)
-next_lowest m l =
-    ⊎_elim
-    (λ (z : m ≡ 0).
-    let e : count_trailing_zeros 64 m ≡ 64 = rw z (trailing_of_zero 64) in
-    record { le = omega arith; here = λ lt. absurd (omega arith); absent = λ f. z })
-    (λ ne.
-    let x = lowest 64 m l (omega arith) in
-    let lt = x.place in
-    record { le = omega arith; here = λ h. x.here; absent = λ f. absurd (omega arith) })
-    (eq_or_ne m 0)
+-- THE NEXT RULE: the lowest of all is a pending rule, where there is one
+pub next_lowest : (m : ℕ) → m < 2 ^ 64 → (m ≡ 0 → ⊥) → NextRule m (Some (count_trailing_zeros 64 m))
+next_lowest m l ne = let x = lowest 64 m l (omega arith) in (x.place, x.here)
 
 -- so is the lowest above p
-pub next_above : (m p : ℕ) → m < 2 ^ 64 → (m / 2 ^ p / 2 ≡ 0 → ⊥) → NextRule m (p + 1 + count_trailing_zeros 64 (m / 2 ^ p / 2))
+pub next_above : (m p : ℕ) → m < 2 ^ 64 → (m / 2 ^ p / 2 ≡ 0 → ⊥) → NextRule m (Some (p + 1 + count_trailing_zeros 64 (m / 2 ^ p / 2)))
 next_above m p l ne =
     let above = m / 2 ^ p / 2 in
     let t = count_trailing_zeros 64 above in
     let x = lowest 64 above (omega (arith, shr_le m p)) (omega arith) in
     let e : p + 1 + t ≡ p + (1 + t) = omega arith in
     let h : Has m (p + 1 + t) = rw e (sym (bit_above m p (1 + t)) ∙ sym (bit_above (m / 2 ^ p) 1 t) ∙ x.here) in
-    let lt = has_below 64 m (p + 1 + t) l h in
-    record { le = omega arith; here = λ g. h; absent = λ f. absurd (omega arith) }
+    (has_below 64 m (p + 1 + t) l h, h)
 
 -- THE TABLE OF FLAGS of a mask without p has p clear
 pub flags_without : {p m r : ℕ} → p < 64 → Without p m r → flags_of 64 r ≡ set (flags_of 64 m) p false
@@ -281,8 +271,8 @@ back_same : (arity scope arity' scope' : List ℕ) (q : ℕ) → SameScope arity
 back_same arity scope arity' scope' q same = (sym same.0, λ k l. sym (same.1 k l))
 
 -- THE TABLE WITHOUT RULE p is that of the rules without it, where the columns of every other rule are as they were
-pub dropped_rules : (arity scope arity' scope' on on' : List ℕ) (p : ℕ) → p < 64 → RulesOn arity scope on → RuleDropped p on on' → get_or arity' p 0 ≡ 0
-    → ((q : ℕ) → (q ≡ p → ⊥) → q < 64 → SameScope arity scope arity' scope' q) → RulesOn arity' scope' on'
+pub dropped_rules : (arity scope arity' scope' on on' : List ℕ) (p : ℕ) → p < 64 → RulesTo arity scope 64 on → RuleDropped p on on' → get_or arity' p 0 ≡ 0
+    → ((q : ℕ) → (q ≡ p → ⊥) → q < 64 → SameScope arity scope arity' scope' q) → RulesTo arity' scope' 64 on'
 dropped_rules arity scope arity' scope' on on' p lp x y gone same = record { size = y.size ∙ x.size; each = λ c l. record { has = has c l; only = only c l } }
   where
     has : (c : ℕ) → c < 32 → (q : ℕ) → q < 64 → OnCall arity' scope' c q → Has (get_or on' c 0) q
@@ -297,7 +287,7 @@ dropped_rules arity scope arity' scope' on on' p lp x y gone same = record { siz
         (f.0, on_same arity' scope' arity scope c q (back_same arity scope arity' scope' q (same q was.1 f.0)) f.1)
 
 -- A RULE ON THE CALLS OF THE MASK, by its columns and by the table
-module _ {arity scope on : List ℕ} (x : RulesOn arity scope on) (calls q : ℕ) where
+module _ {arity scope on : List ℕ} (x : RulesTo arity scope 64 on) (calls q : ℕ) where
   any_of_columns : q < 64 → OnCalls (Has calls) scope q (columns_of arity q) → OnAny on calls q
   any_of_columns l o =
       let c = call_of scope q o.0 in
@@ -311,7 +301,7 @@ module _ {arity scope on : List ℕ} (x : RulesOn arity scope on) (calls q : ℕ
       (f.0, (k.0, k.1, rw k.2 o.2))
 
 -- THE FLAGS OF THE PENDING RULES after those on the calls of the mask joined and p left
-pub enqueued : {arity scope on : List ℕ} {calls p pending r : ℕ} → RulesOn arity scope on → p < 64 → Enqueues on calls p pending r
+pub enqueued : {arity scope on : List ℕ} {calls p pending r : ℕ} → RulesTo arity scope 64 on → p < 64 → Enqueues on calls p pending r
     → Flagged (Below (λ q j. (j ≡ q) × (q ≡ p → ⊥) × OnCalls (Has calls) scope q (columns_of arity q)) 64) (set (flags_of 64 pending) p false) (flags_of 64 r)
 enqueued {arity} {scope} {on} {calls} {p} {pending} {r} x lp y = record { len = flags_length 64 r ∙ sym size; written = written; each = each }
   where
@@ -354,6 +344,6 @@ enqueued {arity} {scope} {on} {calls} {p} {pending} {r} x lp y = record { len = 
         (lt_or_le j 64)
 
 -- and the first time, from none
-pub enqueued_first : {arity scope on : List ℕ} {calls r : ℕ} → RulesOn arity scope on → RulesOnAny on calls r
+pub enqueued_first : {arity scope on : List ℕ} {calls r : ℕ} → RulesTo arity scope 64 on → RulesOnAny on calls r
     → ((q : ℕ) → q < 64 → OnCalls (Has calls) scope q (columns_of arity q) → Has r q) × ((q : ℕ) → Has r q → (q < 64) × OnCalls (Has calls) scope q (columns_of arity q))
 enqueued_first {calls = calls} x y = (λ q l o. y.has q (any_of_columns x calls q l o), λ q h. columns_of_any x calls q (y.only q h))

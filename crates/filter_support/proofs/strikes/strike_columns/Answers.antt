@@ -5,7 +5,7 @@ use Rattle.filter_support.specs.Laws.Known.{still_none, still_more}
 use Rattle.filter_support.proofs.strikes.strike_columns.Goals as goal
 
 pub loop-k-init : goal.loop-k-init
-loop-k-init c = (omega arith, columns_none _ _ _ _, still_none _ _ _)
+loop-k-init c = (omega arith, columns_none _ _ _ _, still_none _ _)
 
 pub overflow_add-number : goal.overflow_add-number
 overflow_add-number c = omega (arith, strikes_fit _ _ _ c.loop-k.invariant.1.strikes c.strike_call-d.ensures.slots_struck)
