@@ -23,8 +23,8 @@ pub fn post(
     requires { p < 64 }
     ensures done { PostDone
         p result rule.now
-        (rules_in rows.old heads.old.arity heads.old.scope heads.old.lengths)
-        (rules_in rows.new heads.new.arity heads.new.scope heads.new.lengths) killers.old
+        (rules_in rows.old heads.old)
+        (rules_in rows.new heads.new) killers.old
         killers.new slots.old slots.new }
     ensures counts { heads.new.counts ≡ heads.old.counts }
 {

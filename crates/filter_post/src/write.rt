@@ -10,8 +10,8 @@ pub fn write_rule(rows: &mut [u8; ROWS], heads: &mut Heads, p: usize, rule: &Rul
     requires { p < 64 }
     ensures written { RuleWritten
         p rule.now
-        (rules_in rows.old heads.old.arity heads.old.scope heads.old.lengths)
-        (rules_in rows.new heads.new.arity heads.new.scope heads.new.lengths) }
+        (rules_in rows.old heads.old)
+        (rules_in rows.new heads.new) }
     ensures counts { heads.new.counts ≡ heads.old.counts }
 {
     heads.arity[p] = rule.arity;

@@ -7,7 +7,9 @@ ghost use Rattle.filter_propagate.specs.Rules.{rules_in};
 ghost use Rattle.filter_relax.specs.Touched.{CallsVisited};
 ghost use Rattle.filter_relax.specs.Closure.{traversal, Expanded, Closed};
 
+use crate::scan::scan_rule;
 use layout::value::{Heads, KILLERS, ROWS, SLOTS};
+use masks::rules::{enqueue, next_rule, rules_on};
 
 // The calls with a visited slot, and the rules that are to be scanned.
 #[derive(Clone, Copy)]
@@ -28,19 +30,19 @@ pub fn expand(
     front: Frontier,
     q: usize,
 ) -> Frontier
-    requires rules_on { RulesOn heads.now.arity heads.now.scope on.now }
+    requires rules_on { RulesOn heads.now on.now }
     requires q_bound { q < 64 }
     requires has { Has front.pending q }
     ensures { Expanded
-        (rules_in rows.now heads.now.arity heads.now.scope heads.now.lengths) killers.now
+        (rules_in rows.now heads.now) killers.now
         slots.now q
         (traversal (all_flags 32 visited.old) (flags_of 32 front.calls) (flags_of 64 front.pending))
         (traversal (all_flags 32 visited.new) (flags_of 32 result.calls) (flags_of 64 result.pending)) }
 {
-    let changed = crate::scan::scan_rule(rows, killers, slots, heads, visited, q);
+    let changed = scan_rule(rows, killers, slots, heads, visited, q);
     Frontier {
         calls: front.calls | changed,
-        pending: masks::rules::enqueue(on, changed, front.pending, q),
+        pending: enqueue(on, changed, front.pending, q),
     }
 }
 
@@ -54,21 +56,19 @@ pub fn close(
     visited: &mut [u32; 32],
     calls: u32,
 ) -> u32
-    requires rules_on { RulesOn heads.now.arity heads.now.scope on.now }
+    requires rules_on { RulesOn heads.now on.now }
     requires calls_visited { CallsVisited (flags_of 32 calls) (all_flags 32 visited.old) }
     ensures { Closed
-        (rules_in rows.now heads.now.arity heads.now.scope heads.now.lengths) killers.now
+        (rules_in rows.now heads.now) killers.now
         slots.now (all_flags 32 visited.old)
         (traversal (all_flags 32 visited.new) (flags_of 32 result) (flags_of 64 0)) }
 {
-    let mut front = Frontier {
-        calls,
-        pending: masks::rules::rules_on(on, calls),
-    };
-    let mut q = masks::rules::next_rule(front.pending, 63);
-    while q < 64 {
+    let pending = rules_on(on, calls);
+    let mut front = Frontier { calls, pending };
+    let mut last = 63;
+    while let Some(q) = next_rule(front.pending, last) {
         front = expand(rows, killers, slots, heads, on, visited, front, q);
-        q = masks::rules::next_rule(front.pending, q);
+        last = q;
     }
     front.calls
 }

@@ -19,7 +19,11 @@ ghost use Rattle.filter_propagate.specs.Queue.{IsFlagged};
 ghost use Rattle.filter_relax.specs.Touched.{CallsVisited};
 ghost use Rattle.filter_relax.specs.Relaxed.{Relaxed};
 
+use closure::close;
 use layout::value::{Heads, KILLERS, ROWS, SLOTS};
+use masks::rules::rules_on;
+use reopen::reopen_calls;
+use revive::revive_rules;
 
 // How many slots were touched, and the rules on the call of one of them.
 #[derive(Clone, Copy)]
@@ -45,16 +49,16 @@ pub fn relax(
     visited: &mut [u32; 32],
     calls: u32,
 ) -> Relaxation
-    requires rules_on { RulesOn heads.now.arity heads.now.scope on.now }
+    requires rules_on { RulesOn heads.now on.now }
     requires calls_visited { CallsVisited (flags_of 32 calls) (all_flags 32 visited.old) }
     ensures { Relaxed
-        (rules_in rows.now heads.now.arity heads.now.scope heads.now.lengths)
+        (rules_in rows.now heads.now)
         (IsFlagged (all_flags 32 visited.old)) result.touched killers.old killers.new
         slots.old slots.new (all_flags 32 visited.new) (flags_of 64 result.pending) }
 {
-    let seen = closure::close(rows, killers, slots, heads, on, visited, calls);
-    let touched = reopen::reopen_calls(slots, visited, seen);
-    let pending = masks::rules::rules_on(on, seen);
-    revive::revive_rules(rows, killers, heads, visited, pending);
+    let seen = close(rows, killers, slots, heads, on, visited, calls);
+    let touched = reopen_calls(slots, visited, seen);
+    let pending = rules_on(on, seen);
+    revive_rules(rows, killers, heads, visited, pending);
     Relaxation { touched, pending }
 }

@@ -6,8 +6,10 @@ ghost use Rattle.masks.specs.Columns.{PastEmpty};
 ghost use Rattle.filter_propagate.specs.Rules.{rules_in};
 ghost use Rattle.filter_relax.specs.Revive.{MaskRevived, RuleFreed, RuleRevived, Blocks};
 
+use crate::scan::killer_bit;
+use layout::places::cap;
 use layout::value::{Heads, KILLERS, ROWS};
-use masks::columns::Columns;
+use masks::columns::{Columns, column_sets, first_three, first_two, row_slots};
 
 // The killer, or none where its slot is visited.
 pub fn killer_left(killer: u8, hit: u32) -> u8
@@ -22,9 +24,9 @@ pub fn revive_row(rows: &[u8; ROWS], killers: &mut [u8; KILLERS], sets: Columns,
     requires w_bound { w < 64 }
     ensures { One 0 (MaskRevived rows.now sets q) (64 * q) w killers.old killers.new }
 {
-    let row = masks::columns::row_slots(rows, q, w);
+    let row = row_slots(rows, q, w);
     let old = killers[64 * q + w];
-    let hit = crate::scan::killer_bit(row, sets, old);
+    let hit = killer_bit(row, sets, old);
     killers[64 * q + w] = killer_left(old, hit);
 }
 
@@ -61,12 +63,12 @@ pub fn revive_columns(
     ensures { Swept 0 (MaskRevived rows.now sets q) (64 * q) m killers.old killers.new }
 {
     if n < 3 {
-        let two = masks::columns::first_two(sets);
+        let two = first_two(sets);
         revive_rows(rows, killers, two, q, m);
         return;
     }
     if n < 4 {
-        let three = masks::columns::first_three(sets);
+        let three = first_three(sets);
         revive_rows(rows, killers, three, q, m);
         return;
     }
@@ -84,12 +86,12 @@ pub fn revive_rule(
     requires { q < 64 }
     ensures { Swept
         0
-        (RuleFreed (rules_in rows.now heads.now.arity heads.now.scope heads.now.lengths) (all_flags 32 visited.now) q)
+        (RuleFreed (rules_in rows.now heads.now) (all_flags 32 visited.now) q)
         (64 * q) 64 killers.old killers.new }
 {
-    let n = usize::from(heads.arity[q]).min(4);
-    let m = usize::from(heads.lengths[q]).min(64);
-    let sets = masks::columns::column_sets(visited, &heads.scope, q, n);
+    let n = cap(heads.arity[q], 4);
+    let m = cap(heads.lengths[q], 64);
+    let sets = column_sets(visited, &heads.scope, q, n);
     revive_columns(rows, killers, sets, q, n, m)
 }
 
@@ -102,7 +104,7 @@ pub fn revive_rules(
     rules: u64,
 )
     ensures { Blocks
-        (RuleRevived (rules_in rows.now heads.now.arity heads.now.scope heads.now.lengths) (all_flags 32 visited.now) (flags_of 64 rules))
+        (RuleRevived (rules_in rows.now heads.now) (all_flags 32 visited.now) (flags_of 64 rules))
         64 killers.old killers.new }
 {
     let mut left = rules;

@@ -9,8 +9,11 @@ ghost use Rattle.filter_relax.specs.Touched.{RuleJustifies};
 ghost use Rattle.filter_relax.specs.Spread.{ColumnMask, Adds};
 ghost use Rattle.filter_relax.specs.Scan.{KillerBits, WithHit, RowScanned, Scanned, ScannedColumns, ColumnWanted, ColumnsWanted, Empty, Common, NewSlots, Scans};
 
+use crate::visit::visit_call;
+use layout::places::cap;
 use layout::value::{Heads, KILLERS, ROWS, SLOTS};
-use masks::columns::Columns;
+use masks::columns::{Columns, column, column_sets, first_three, first_two, row_slots};
+use masks::slots::{set_difference, slots_with};
 
 // The set, where the test holds; else the empty one.
 pub fn set_where(test: bool, x: u32) -> u32
@@ -54,7 +57,7 @@ pub fn scan_row(
     requires w_bound { w < 64 }
     ensures { RowScanned rows.now killers.now sets q w found result }
 {
-    let row = masks::columns::row_slots(rows, q, w);
+    let row = row_slots(rows, q, w);
     let hit = killer_bit(row, sets, killers[64 * q + w]);
     with_hit(found, row, hit)
 }
@@ -99,14 +102,14 @@ pub fn scan_columns(
     ensures { ScannedColumns rows.now killers.now sets q n m result }
 {
     if n < 3 {
-        let two = masks::columns::first_two(sets);
+        let two = first_two(sets);
         let found = scan_rows(rows, killers, two, q, m);
-        return masks::columns::first_two(found);
+        return first_two(found);
     }
     if n < 4 {
-        let three = masks::columns::first_three(sets);
+        let three = first_three(sets);
         let found = scan_rows(rows, killers, three, q, m);
-        return masks::columns::first_three(found);
+        return first_three(found);
     }
     scan_rows(rows, killers, sets, q, m)
 }
@@ -126,7 +129,7 @@ pub fn column_wanted(
 {
     if k < n {
         let c = usize::from(scope[4 * q + k] % 32);
-        masks::slots::set_difference(masks::slots::slots_with(slots, c, q as u8), visited[c])
+        set_difference(slots_with(slots, c, q as u8), visited[c])
     } else {
         0
     }
@@ -187,7 +190,7 @@ pub fn new_slots(
     requires past_empty { PastEmpty n wanted }
     ensures { NewSlots rows.now killers.now scope.now visited.now wanted q n m result }
 {
-    let sets = masks::columns::column_sets(visited, scope, q, n);
+    let sets = column_sets(visited, scope, q, n);
     let found = scan_columns(rows, killers, sets, q, n, m);
     common(found, wanted)
 }
@@ -200,7 +203,7 @@ pub fn visit_columns(scope: &[u8; 256], visited: &mut [u32; 32], q: usize, new: 
     let mut calls = 0;
     for k in 0..4 {
         let c = usize::from(scope[4 * q + k] % 32);
-        calls = crate::visit::visit_call(visited, c, masks::columns::column(new, k), calls);
+        calls = visit_call(visited, c, column(new, k), calls);
     }
     calls
 }
@@ -216,15 +219,15 @@ pub fn scan_rule(
 ) -> u32
     requires { q < 64 }
     ensures { Scans
-        (RuleJustifies (rules_in rows.now heads.now.arity heads.now.scope heads.now.lengths) killers.now slots.now q)
+        (RuleJustifies (rules_in rows.now heads.now) killers.now slots.now q)
         (all_flags 32 visited.old) (all_flags 32 visited.new) result }
 {
-    let n = usize::from(heads.arity[q]).min(4);
+    let n = cap(heads.arity[q], 4);
     let wanted = columns_wanted(slots, &heads.scope, visited, q, n);
     if all_empty(wanted) {
         return 0;
     }
-    let m = usize::from(heads.lengths[q]).min(64);
+    let m = cap(heads.lengths[q], 64);
     let new = new_slots(rows, killers, &heads.scope, visited, wanted, q, n, m);
     visit_columns(&heads.scope, visited, q, new)
 }

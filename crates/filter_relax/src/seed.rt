@@ -3,7 +3,9 @@ ghost use Rattle.std.specs.Prelude.{◌≤◌, ◌<◌};
 ghost use Rattle.filter_relax.specs.Touched.{Seeded};
 ghost use Rattle.filter_relax.specs.Spread.{Adds};
 
+use crate::visit::visit_call;
 use layout::value::SLOTS;
+use masks::slots::slots_with;
 
 // Visits the slots on the calls of n columns of rule p with the cause p. The calls that have one: without any, a retraction of p touches nothing.
 pub fn visit_seed(
@@ -20,8 +22,8 @@ pub fn visit_seed(
     let mut calls = 0;
     for k in 0..n {
         let c = usize::from(scope[4 * p + k] % 32);
-        let mask = masks::slots::slots_with(slots, c, p as u8);
-        calls = crate::visit::visit_call(visited, c, mask, calls);
+        let mask = slots_with(slots, c, p as u8);
+        calls = visit_call(visited, c, mask, calls);
     }
     calls
 }

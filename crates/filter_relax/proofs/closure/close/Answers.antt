@@ -5,14 +5,10 @@ use Rattle.filter_relax.proofs.closure.close.Goals as goal
 
 pub loop-q-init : goal.loop-q-init
 loop-q-init c =
-    (c.next_rule-q.ensures, closing_none _ _ _ _ _ c.requires.rules_on (search) c.requires.calls_visited c.rules_on.ensures)
-
-pub expand-front-requires : goal.expand-front-requires
-expand-front-requires c =
-    record { rules_on = c.requires.rules_on; q_bound = c.loop-q-test.true; has = c.loop-q.invariant.0.here c.loop-q-test.true }
+    (omega arith, closing_none _ _ _ _ _ c.requires.rules_on (search) c.requires.calls_visited c.rules_on-pending.ensures)
 
 pub loop-q-preserved : goal.loop-q-preserved
-loop-q-preserved c = (c.next_rule-q-in-loop-q.ensures, closing_more _ _ _ c.loop-q.invariant.1 c.expand-front.ensures)
+loop-q-preserved c = (omega arith, closing_more _ _ _ c.loop-q.invariant.1 c.expand-front.ensures)
 
 pub returns : goal.returns
-returns c = closed _ _ _ (c.loop-q.invariant.0.absent (omega arith)) c.loop-q.invariant.1
+returns c = closed _ _ _ c.in_default.ensures c.loop-q.invariant.1

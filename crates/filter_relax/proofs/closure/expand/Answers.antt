@@ -5,4 +5,4 @@ use Rattle.filter_relax.proofs.closure.expand.Goals as goal
 
 pub returns : goal.returns
 returns c =
-    expanded (rules_in c.args.rows.now c.args.heads.now.arity c.args.heads.now.scope c.args.heads.now.lengths) _ _ _ _ _ _ c.requires.rules_on c.requires.q_bound c.requires.has (search) c.scan_rule-changed.ensures c.enqueue.ensures
+    expanded (rules_in c.args.rows.now c.args.heads.now) _ _ _ _ _ _ c.requires.rules_on c.requires.q_bound c.requires.has (search) c.scan_rule-changed.ensures c.enqueue.ensures
