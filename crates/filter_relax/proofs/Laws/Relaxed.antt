@@ -4,7 +4,7 @@ use Rattle.std.proofs.Common.{◌∙◌, inl, inr, arith}
 use Rattle.tables.specs.Masks.{Has, flags_of, all_flags}
 use Rattle.tables.specs.Laws.Facts.{true_false}
 use Rattle.tables.specs.Laws.Flags.{flags_length, flag_set, flag_has}
-use Rattle.masks.specs.Rules.{OnCalls, RulesOn, RulesOnAny}
+use Rattle.masks.specs.Rules.{OnCalls, RulesTo, RulesOnAny}
 use Rattle.masks.specs.Laws.Rules.{enqueued_first}
 use Rattle.filter_propagate.specs.Rules.{RuleBytes}
 use Rattle.filter_propagate.specs.Queue.{IsFlagged}
@@ -43,7 +43,7 @@ module _ (R : RuleBytes) {visited : List Bool} (calls : ℕ) (all : CallsVisited
 pub relaxed : (R : RuleBytes) {t calls rules : ℕ} (killers slots : List ℕ) {revived reopened on : List ℕ} {old visited idle : List Bool}
     → Closed R killers slots old (traversal visited (flags_of 32 calls) idle)
     → Reopened t visited slots reopened
-    → RulesOn R.arity R.scope on
+    → RulesTo R.arity R.scope 64 on
     → RulesOnAny on calls rules
     → Blocks (RuleRevived R visited (flags_of 64 rules)) 64 killers revived
     → Relaxed R (IsFlagged old) t killers revived slots reopened visited (flags_of 64 rules)

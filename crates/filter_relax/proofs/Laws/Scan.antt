@@ -1,10 +1,6 @@
 -- The walk over a rule's rows by masks: a row's killer, and what is found with its slots, row by row; then which of these slots are new. Assumes nothing.
-use Rattle.std.specs.Prelude.{◌≡◌, List, ◌⊎◌, Bool, cond, ℕ, zero, suc, ◌+◌, ◌^◌, ◌≤◌, ◌<◌, eqb, length, get_or}
-use Rattle.std.proofs.Math.Path.{refl}
-use Rattle.std.proofs.Common.{sym, ◌∙◌, eq-or-lt_of_le, eq-eqb, ne_eqb, eqb-true}
-use Rattle.std.proofs.Math.Logic.{inl, inr, ⊎_elim}
-use Rattle.std.proofs.Math.Bool.{true, false}
-use native.Mathlib.Omega.{arith}
+use Rattle.std.specs.Prelude.{◌≡◌, refl, List, ◌⊎◌, Bool, true, false, cond, ℕ, zero, suc, ◌+◌, ◌^◌, ◌≤◌, ◌<◌, eqb, length, get_or}
+use Rattle.std.proofs.Common.{sym, ◌∙◌, inl, inr, ⊎_elim, eq-or-lt_of_le, arith, eq-eqb, ne_eqb, eqb-true}
 use Rattle.std.specs.Int.Bits.{bit_and, bit_or, or_zero_r, or_add_and}
 use Rattle.std.proofs.lemmas.Nat.{and_le_l, and_le_r}
 use Rattle.tables.specs.Assign.{Any, Below}
@@ -172,9 +168,6 @@ module _ (rows killers : List ℕ) (sets : Columns) (q : ℕ) where
           record { row = h.row; inside = omega arith; hit = h.hit; holds = h.holds })
           (λ t. record { row = w; inside = omega arith; hit = t.0; holds = t.1 })
           (b.only k s l i)
-
-  pub scanned_at : {w m : ℕ} {x : Columns} → Scanned rows killers sets q w x → w ≤ m → m ≤ w → Scanned rows killers sets q m x
-  scanned_at {w} {m} a l g = let e : m ≡ w = omega arith in rw e a
 
 -- A RULE OF FEWER COLUMNS: what is found in the others is thrown away
 module _ {rows killers : List ℕ} {sets : Columns} {q m : ℕ} {x : Columns} where

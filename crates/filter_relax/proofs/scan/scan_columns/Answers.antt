@@ -1,6 +1,5 @@
 -- The columns past the rule's are empty, so without them the sets are the same.
-use mathlib.Core.Path.{◌∙◌}
-use native.Mathlib.Omega.{arith}
+use Rattle.std.proofs.Common.{◌∙◌, arith}
 use Rattle.masks.specs.Laws.Columns.{two_same, three_same}
 use Rattle.filter_relax.proofs.Laws.Scan.{scanned_two, scanned_three}
 use Rattle.filter_relax.proofs.scan.scan_columns.Goals as goal
