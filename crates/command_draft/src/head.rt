@@ -55,17 +55,16 @@ pub fn redraft(counts: &[u8; 32], slots: &[u8], draft: Draft, head: Head) -> Red
     if number != 0 {
         return Redrafted { number, draft };
     }
-    let draft = draft_of(head);
-    Redrafted { number, draft }
+    Redrafted {
+        number,
+        draft: draft_of(head),
+    }
 }
 
 #[inline(never)]
 pub fn start_draft(value: Value, head: Head, slots: &[u8]) -> Outcome
     ensures { StartsDraft value slots.now head result }
 {
-    let heads = value.heads;
-    let counts = heads.counts;
-    let draft = value.draft;
-    let next = redraft(&counts, slots, draft, head);
+    let next = redraft(&value.heads.counts, slots, value.draft, head);
     outcome_of(value, next)
 }

@@ -19,21 +19,19 @@ pub fn draft_of(counts: &[u8; 32], f: GapRule) -> GapDraft
     let test = Test {
         form: f.form,
         gap: f.gap,
-        seconds: counts[(f.second % 32) as usize],
+        seconds: counts[usize::from(f.second % 32)],
     };
-    let pairs = list_pairs(test, counts[(f.first % 32) as usize]);
-    let rows = pairs.rows;
-    let count = pairs.count;
+    let pairs = list_pairs(test, counts[usize::from(f.first % 32)]);
     GapDraft {
         draft: Draft {
             number: f.number,
             rule: RuleData {
                 arity: 2,
                 scope: [f.first, f.second, 255, 255],
-                length: (count % 256) as u8,
-                rows,
+                length: (pairs.count % 256) as u8,
+                rows: pairs.rows,
             },
         },
-        count,
+        count: pairs.count,
     }
 }

@@ -20,23 +20,22 @@ pub fn redraft(counts: &[u8; 32], slots: &[u8], draft: Draft, f: GapRule) -> Red
         return Redrafted { number, draft };
     }
     let made = draft_of(counts, f);
-    let new = made.draft;
     if 64 < made.count {
         return Redrafted {
             number: TOO_MANY_PAIRS,
             draft,
         };
     }
-    Redrafted { number, draft: new }
+    Redrafted {
+        number,
+        draft: made.draft,
+    }
 }
 
 #[inline(never)]
 pub fn draft_gap(value: Value, f: GapRule, slots: &[u8]) -> Outcome
     ensures { DraftPromise value slots.now (kind.Gap f) result }
 {
-    let heads = value.heads;
-    let counts = heads.counts;
-    let draft = value.draft;
-    let next = redraft(&counts, slots, draft, f);
+    let next = redraft(&value.heads.counts, slots, value.draft, f);
     outcome_of(value, next)
 }
