@@ -13,10 +13,10 @@ pub record ColumnAdded (scope : List ℕ) (q n k : ℕ) (old new : List ℕ) : T
   pub size : length new ≡ length old
   pub each : (c : ℕ) → c < 32 → get_or new c 0 ≡ get_or old c 0 + cond (column_on? scope q n c k) 1 0
 
--- the same for its four columns
-pub record ColumnsAdded (scope : List ℕ) (q n : ℕ) (old new : List ℕ) : Type 0 where
+-- the same for its first m columns
+pub record ColumnsAdded (scope : List ℕ) (q n m : ℕ) (old new : List ℕ) : Type 0 where
   pub size : length new ≡ length old
-  pub each : (c : ℕ) → c < 32 → get_or new c 0 ≡ get_or old c 0 + count_below 4 (column_on? scope q n c)
+  pub each : (c : ℕ) → c < 32 → get_or new c 0 ≡ get_or old c 0 + count_below m (column_on? scope q n c)
 
 -- the columns of the first q rules
 pub record ColumnsTo (arity scope : List ℕ) (q : ℕ) (on : List ℕ) : Type 0 where

@@ -1,6 +1,6 @@
 -- THE COLUMNS ON EACH CALL, as the code adds them: column by column and rule by rule. Assumes nothing.
 use Rattle.std.specs.Prelude.{◌≡◌, refl, Bool, true, false, cond, List, ℕ, ◌+◌, ◌*◌, ◌<◌, ◌≤◌, length, get_or, set, replicate}
-use Rattle.std.proofs.Common.{sym, ap, ap₂, ◌∙◌, ⊎_elim, arith, length-set, get_or-set_same, get_or-set_other, Fits, lt-ltb, le-ltb, eq-eqb, ne_eqb}
+use Rattle.std.proofs.Common.{sym, ap, ap₂, ◌∙◌, ⊎_elim, arith, add-one, length-set, get_or-set_same, get_or-set_other, Fits, lt-ltb, le-ltb, eq-eqb, ne_eqb}
 use Rattle.std.proofs.lemmas.List.{length-replicate, get_or-replicate}
 use Rattle.std.specs.Int.{w32}
 use Rattle.tables.specs.Laws.Facts.{eq_or_ne}
@@ -49,30 +49,26 @@ most_within most le = record { size = most.size; each = λ c l. omega (arith, mo
 pub most_fits : {m : ℕ} {on : List ℕ} (c : ℕ) → AtMost m on → c < 32 → m < 256 → Fits w32 (get_or on c 0 + 1)
 most_fits c most l few = omega (arith, most.each c l)
 
--- THE FOUR COLUMNS of a rule
-pub added_four : {scope : List ℕ} {q n : ℕ} {a b d e f : List ℕ} → ColumnAdded scope q n 0 a b → ColumnAdded scope q n 1 b d → ColumnAdded scope q n 2 d e → ColumnAdded scope q n 3 e f
-    → ColumnsAdded scope q n a f
-added_four {scope} {q} {n} {a} {b} {d} {e} {f} w x y z =
-    record {
-      size = z.size ∙ y.size ∙ x.size ∙ w.size;
-      each = λ c l.
-          sum (get_or a c 0) (get_or b c 0) (get_or d c 0) (get_or e c 0) (get_or f c 0)
-          (cond (column_on? scope q n c 0) 1 0) (cond (column_on? scope q n c 1) 1 0) (cond (column_on? scope q n c 2) 1 0) (cond (column_on? scope q n c 3) 1 0)
-          (w.each c l) (x.each c l) (y.each c l) (z.each c l);
-    }
-  where
-    sum : (a b d e f i j k l : ℕ) → b ≡ a + i → d ≡ b + j → e ≡ d + k → f ≡ e + l → f ≡ a + (0 + i + j + k + l)
-    sum a b d e f i j k l p q r s = omega arith
+-- THE COLUMNS of a rule, one after the other
+pub columns_none : (scope : List ℕ) (q n : ℕ) (on : List ℕ) → ColumnsAdded scope q n 0 on on
+columns_none scope q n on = record { size = refl; each = λ c l. omega arith }
 
-pub added_bare : (scope : List ℕ) (q n : ℕ) (on : List ℕ) → n ≡ 0 → ColumnsAdded scope q n on on
-added_bare scope q n on none =
-    added_four {scope = scope} {q = q} {n = n} (added_none on (omega arith)) (added_none on (omega arith)) (added_none on (omega arith)) (added_none on (omega arith))
+pub columns_more : {scope : List ℕ} {q n m : ℕ} {old mid new : List ℕ} → ColumnsAdded scope q n m old mid → ColumnAdded scope q n m mid new → ColumnsAdded scope q n (m + 1) old new
+columns_more {scope} {q} {n} {m} {old} {mid} {new} so_far added =
+    record {
+      size = added.size ∙ so_far.size;
+      each = λ c l. rw add-one (omega (arith, so_far.each c l, added.each c l));
+    }
+
+-- none of them counts where the arity is 0
+pub added_bare : (scope : List ℕ) (q n : ℕ) (on : List ℕ) → n ≡ 0 → ColumnsAdded scope q n 4 on on
+added_bare scope q n on none = record { size = refl; each = λ c l. rw none (omega arith) }
 
 -- THE RULES, one after the other
 pub on_calls_none : (arity scope : List ℕ) → ColumnsTo arity scope 0 (replicate 32 0)
 on_calls_none arity scope = record { size = length-replicate {A = ℕ} 32 0; each = λ c l. get_or-replicate {A = ℕ} 32 c 0 0 l }
 
-pub on_calls_more : {arity scope : List ℕ} {q n : ℕ} {old new : List ℕ} → ColumnsTo arity scope q old → n ≡ get_or arity q 0 → ColumnsAdded scope q n old new → ColumnsTo arity scope (q + 1) new
+pub on_calls_more : {arity scope : List ℕ} {q n : ℕ} {old new : List ℕ} → ColumnsTo arity scope q old → n ≡ get_or arity q 0 → ColumnsAdded scope q n 4 old new → ColumnsTo arity scope (q + 1) new
 on_calls_more {arity} {scope} {q} {n} {old} {new} so_far is added =
     let size : 4 * (q + 1) ≡ 4 * q + 4 = omega arith in
     record {
