@@ -30,7 +30,7 @@ fn add_rule(scope: &[u8; 256], on: &mut [u32; 32], q: usize, n: u8)
 
 // The columns on each call.
 pub fn columns_on_calls(heads: &Heads) -> [u32; 32]
-    ensures { Columns heads.now.arity heads.now.scope result }
+    ensures { Columns heads.now result }
 {
     let mut on = [0u32; 32];
     for q in 0..64 {

@@ -5,6 +5,7 @@ use Rattle.std.proofs.lemmas.List.{length-replicate, get_or-replicate}
 use Rattle.std.specs.Int.{w32}
 use Rattle.tables.specs.Laws.Facts.{eq_or_ne}
 use Rattle.layout.specs.Places.{call_of}
+use Rattle.layout.specs.declared.value.Heads.{Heads}
 use Rattle.model.specs.Tests.{count_below}
 use Rattle.model.proofs.Laws.Tests.{count_bound, count_row}
 use Rattle.summary_counts.specs.Counted.{column_on?, columns_on}
@@ -65,30 +66,27 @@ pub added_bare : (scope : List ℕ) (q n : ℕ) (on : List ℕ) → n ≡ 0 → 
 added_bare scope q n on none = record { size = refl; each = λ c l. rw none (omega arith) }
 
 -- THE RULES, one after the other
-pub on_calls_none : (arity scope : List ℕ) → ColumnsTo arity scope 0 (replicate 32 0)
-on_calls_none arity scope = record { size = length-replicate {A = ℕ} 32 0; each = λ c l. get_or-replicate {A = ℕ} 32 c 0 0 l }
+pub on_calls_none : (h : Heads) → ColumnsTo h 0 (replicate 32 0)
+on_calls_none h = record { size = length-replicate {A = ℕ} 32 0; each = λ c l. get_or-replicate {A = ℕ} 32 c 0 0 l }
 
-pub on_calls_more : {arity scope : List ℕ} {q n : ℕ} {old new : List ℕ} → ColumnsTo arity scope q old → n ≡ get_or arity q 0 → ColumnsAdded scope q n 4 old new → ColumnsTo arity scope (q + 1) new
-on_calls_more {arity} {scope} {q} {n} {old} {new} so_far is added =
+pub on_calls_more : {h : Heads} {q n : ℕ} {old new : List ℕ} → ColumnsTo h q old → n ≡ get_or h.arity q 0 → ColumnsAdded h.scope q n 4 old new → ColumnsTo h (q + 1) new
+on_calls_more {h} {q} {n} {old} {new} so_far is added =
     let size : 4 * (q + 1) ≡ 4 * q + 4 = omega arith in
     record {
       size = added.size ∙ so_far.size;
       each = λ c l.
           added.each c l
-          ∙ ap₂ (λ (a b : ℕ). a + b) (so_far.each c l) (ap (λ (m : ℕ). count_below 4 (column_on? scope q m c)) is)
-          ∙ sym (count_row 4 q (λ p k. column_on? scope p (get_or arity p 0) c k) (omega arith))
-          ∙ sym (ap (λ (m : ℕ). columns_on arity scope m c) size);
+          ∙ ap₂ (λ (a b : ℕ). a + b) (so_far.each c l) (ap (λ (m : ℕ). count_below 4 (column_on? h.scope q m c)) is)
+          ∙ sym (count_row 4 q (λ p k. column_on? h.scope p (get_or h.arity p 0) c k) (omega arith))
+          ∙ sym (ap (λ (m : ℕ). columns_on h m c) size);
     }
 
-pub on_calls_at : {arity scope : List ℕ} {q m : ℕ} {on : List ℕ} → ColumnsTo arity scope q on → q ≤ m → m ≤ q → ColumnsTo arity scope m on
-on_calls_at {q = q} {m = m} x le ge = let e : m ≡ q = omega arith in rw e x
-
 -- the columns of q rules are four for each at most
-pub on_calls_most : {arity scope : List ℕ} {q : ℕ} {on : List ℕ} → ColumnsTo arity scope q on → AtMost (4 * q) on
-on_calls_most {arity} {scope} {q} {on} x =
+pub on_calls_most : {h : Heads} {q : ℕ} {on : List ℕ} → ColumnsTo h q on → AtMost (4 * q) on
+on_calls_most {h} {q} {on} x =
     record {
       size = x.size;
-      each = λ c l. below (get_or on c 0) (columns_on arity scope (4 * q) c) (x.each c l) (count_bound (4 * q) _);
+      each = λ c l. below (get_or on c 0) (columns_on h (4 * q) c) (x.each c l) (count_bound (4 * q) _);
     }
   where
     below : (a b : ℕ) → a ≡ b → b ≤ 4 * q → a ≤ 4 * q

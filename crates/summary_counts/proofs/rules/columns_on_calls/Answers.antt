@@ -5,7 +5,7 @@ use Rattle.summary_counts.proofs.rules.columns_on_calls.Goals as goal
 use Rattle.summary_counts.proofs.rules.columns_on_calls.Goals.{then-n-gt0, else-n-gt0}
 
 pub loop-q-init : goal.loop-q-init
-loop-q-init c = on_calls_none _ _
+loop-q-init c = on_calls_none _
 
 pub loop-q-preserved : goal.loop-q-preserved
 loop-q-preserved c =
