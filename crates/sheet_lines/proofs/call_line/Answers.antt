@@ -12,7 +12,7 @@ write_start-numbered-requires c =
 pub call_slots-listed-requires : goal.call_slots-listed-requires
 call_slots-listed-requires c =
     let room = room_parts (slot_parts c.args.slots.now c.args.c) c.requires.room in
-    record { room = room_first (room_rest room c.write_start-numbered.ensures); slots_len = search rules; c_bound = search rules }
+    record { room = room_first (room_rest room c.write_start-numbered.ensures); c_bound = search rules }
 
 pub write_byte-requires : goal.write_byte-requires
 write_byte-requires c =

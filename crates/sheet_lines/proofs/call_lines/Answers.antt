@@ -5,12 +5,12 @@ use Rattle.sheet_lines.proofs.Laws.Joined.{joined_none, joined_more, joined_room
 use Rattle.sheet_lines.proofs.call_lines.Goals as goal
 
 pub loop-c-init : goal.loop-c-init
-loop-c-init c = (omega arith, joined_none _ _ _)
+loop-c-init c = joined_none _ _ _
 
 pub call_line-next-requires : goal.call_line-next-requires
 call_line-next-requires c =
-    record { room = joined_room (slot_line c.args.slots.now) {n = c.args.n} (omega arith) c.requires.room c.loop-c.invariant.1; slots_len = c.requires.slots_len; c_bound = omega arith }
+    record { room = joined_room (slot_line c.args.slots.now) {n = c.args.n} (omega arith) c.requires.room c.loop-c.invariant; c_bound = omega arith }
 
 pub loop-c-preserved : goal.loop-c-preserved
 loop-c-preserved c =
-    (omega arith, joined_more _ c.loop-c.invariant.1 c.call_line-next.ensures)
+    joined_more _ c.loop-c.invariant c.call_line-next.ensures

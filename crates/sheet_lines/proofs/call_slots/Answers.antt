@@ -11,7 +11,7 @@ write_bytes-requires c =
 
 pub open_slots-requires : goal.open_slots-requires
 open_slots-requires c =
-    record { room = room_same (no_dash c.args.slots.now c.args.c c.if-slots-c.false) c.requires.room; slots_len = search rules; c_bound = search rules }
+    record { room = room_same (no_dash c.args.slots.now c.args.c c.if-slots-c.false) c.requires.room; c_bound = search rules }
 
 pub returns-then-slots-c : goal.returns-then-slots-c
 returns-then-slots-c c =
