@@ -1,5 +1,5 @@
 // The lines of the sheet, written one after another into a lent buffer. Each function is given the place to write at, asks for room for just what it
-// writes, and returns the place after it.
+// writes, and returns the place after it. A struct of the buffer and the place would need one more clause in each contract: that it still holds the same buffer.
 // Proved: what is written is the definition's bytes, and every other byte is as it was. Assumed: nothing.
 #![tactic(auto)]
 

@@ -4,4 +4,4 @@ use Rattle.std.proofs.lemmas.Slice.{overwrites}
 use Rattle.sheet_lines.proofs.write_bytes.Goals as goal
 
 pub returns : goal.returns
-returns c = record { place = search rules; size = search (rules, overwrites); written = search (rules, overwrites); behind = search (rules, overwrites) }
+returns c = search (rules, overwrites)
