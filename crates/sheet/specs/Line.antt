@@ -1,5 +1,5 @@
 -- THE LINE OF A COMMAND (SCOPE 7.2), read off its answer.
-use Rattle.std.specs.Prelude.{◌≡◌, List, ℕ, ◌+◌, ◌≤◌}
+use Rattle.std.specs.Prelude.{List, ℕ, ◌+◌, ◌≤◌}
 use Rattle.model.specs.declared.answer.Answer.{Answer}
 use Rattle.model.specs.declared.answer.Answer.TheVariants as answer
 use Rattle.model.specs.declared.command.Command.{Command}
@@ -31,8 +31,3 @@ pub record ShortAnswer (given : Answer) : Type 0 where
 pub record LineAppended (bytes : List ℕ) (place : ℕ) (old new : List ℕ) (r : ℕ) : Type 0 where
   pub appended : Appended bytes place old new r
   pub short : r ≤ place + line_most
-
--- a byte as a number
-pub record Wide (b r : ℕ) : Type 0 where
-  pub same : r ≡ b
-  pub most : r ≤ 255

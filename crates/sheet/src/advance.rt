@@ -1,13 +1,15 @@
 // One round over the input: what stands at a place is read and obeyed, and its line is written.
-ghost use Rattle.std.specs.Prelude.{◌≡◌, length};
+ghost use Rattle.std.specs.Prelude.{length};
 ghost use Rattle.model.specs.Commands.{read_at};
 ghost use Rattle.sheet_lines.specs.Append.{Room};
 ghost use Rattle.sheet.specs.Advance.{Held, CommandAdvanced, Advanced};
 ghost use Rattle.layout.specs.Memory.{marked_memory};
 ghost use Rattle.sheet_lines.specs.Lengths.{line_most};
 
+use crate::line::{answer_line, refusal_line};
+use layout::marks::MARKS;
 use layout::names::NAMES;
-use layout::value::Value;
+use layout::value::{KILLERS, ROWS, SLOTS, Value};
 use model::command::{Command, Decoded, Read};
 
 // How far the sheet has come.
@@ -21,20 +23,6 @@ pub struct Progress {
     pub written: usize,
 }
 
-impl Progress {
-    // The same value, where so many bytes are read and written.
-    fn with_places(self, read: usize, written: usize) -> Progress
-        ensures { result ≡ record { value = self.value; read = read; written = written } }
-    {
-        let value = self.value;
-        Progress {
-            value,
-            read,
-            written,
-        }
-    }
-}
-
 // A command that was read is obeyed, and its line is written.
 fn advance_command(
     progress: Progress,
@@ -42,10 +30,10 @@ fn advance_command(
     decoded: Decoded,
     names: &mut [u8; NAMES],
     out: &mut [u8],
-    rows: &mut [u8],
-    killers: &mut [u8],
-    slots: &mut [u8],
-    marks: &mut [u8],
+    rows: &mut [u8; ROWS],
+    killers: &mut [u8; KILLERS],
+    slots: &mut [u8; SLOTS],
+    marks: &mut [u8; MARKS],
 ) -> Progress
     requires held { Held (marked_memory progress.value names.old rows.old killers.old slots.old marks.old) }
     requires room { Room progress.written line_most out.old }
@@ -54,16 +42,20 @@ fn advance_command(
         (marked_memory progress.value names.old rows.old killers.old slots.old marks.old) out.old result
         (marked_memory result.value names.new rows.new killers.new slots.new marks.new) out.new }
 {
-    let value = progress.value;
-    let counts = decoded.counts;
-    let outcome = command_obey::obey(value, names, command, counts, rows, killers, slots, marks);
-    let answer = outcome.answer;
-    let value = outcome.value;
-    let written = crate::line::answer_line(out, progress.written, command, answer);
-    let read = decoded.next;
+    let outcome = command_obey::obey(
+        progress.value,
+        names,
+        command,
+        decoded.counts,
+        rows,
+        killers,
+        slots,
+        marks,
+    );
+    let written = answer_line(out, progress.written, command, outcome.answer);
     Progress {
-        value,
-        read,
+        value: outcome.value,
+        read: decoded.next,
         written,
     }
 }
@@ -74,10 +66,10 @@ pub fn advance(
     names: &mut [u8; NAMES],
     input: &[u8],
     out: &mut [u8],
-    rows: &mut [u8],
-    killers: &mut [u8],
-    slots: &mut [u8],
-    marks: &mut [u8],
+    rows: &mut [u8; ROWS],
+    killers: &mut [u8; KILLERS],
+    slots: &mut [u8; SLOTS],
+    marks: &mut [u8; MARKS],
 ) -> Progress
     requires held { Held (marked_memory progress.value names.old rows.old killers.old slots.old marks.old) }
     requires room { Room progress.written line_most out.old }
@@ -87,16 +79,21 @@ pub fn advance(
         (marked_memory result.value names.new rows.new killers.new slots.new marks.new) out.new }
 {
     let decoded = command_decode::decode(input, progress.read);
-    let found = decoded.read;
-    match found {
+    match decoded.read {
         Read::Command(command) => advance_command(
             progress, command, decoded, names, out, rows, killers, slots, marks,
         ),
         Read::Refused(kind, number) => {
-            let written = crate::line::refusal_line(out, progress.written, kind, number);
-            let read = input.len();
-            progress.with_places(read, written)
+            let written = refusal_line(out, progress.written, kind, number);
+            Progress {
+                read: input.len(),
+                written,
+                ..progress
+            }
         }
-        Read::End => progress.with_places(input.len(), progress.written),
+        Read::End => Progress {
+            read: input.len(),
+            ..progress
+        },
     }
 }

@@ -1,23 +1,20 @@
 // The lines of an input that is not too long: those of its commands, one after another, and then those of the board.
-ghost use Rattle.std.specs.Prelude.{◌≡◌, length};
+ghost use Rattle.std.specs.Prelude.{length};
 ghost use Rattle.model.specs.Ledger.{fresh};
 ghost use Rattle.model.specs.Marks.{RepresentsMarked};
 ghost use Rattle.sheet_lines.specs.Append.{Appended, Room};
 ghost use Rattle.sheet.specs.File.{file_lines, counted_lines, Fits, Lined};
 ghost use Rattle.layout.specs.Memory.{marked_memory};
-ghost use Rattle.layout.specs.Sizes.{slots_length};
 ghost use Rattle.sheet_lines.specs.Lengths.{board_lines_most};
 
-use crate::advance::Progress;
+use crate::advance::{Progress, advance};
 use layout::marks::MARKS;
 use layout::names::{MarkedValue, NAMES};
 use layout::value::{KILLERS, ROWS, SLOTS, Value};
 
 // The lines of the board, whose calls have these counts: at most 32 lines of 91 bytes, and one of 7 for the whole. Where there is no call there is no line.
-fn board_lines(out: &mut [u8], place: usize, counts: &[u8; 32], slots: &[u8]) -> usize
-    requires room { Room place board_lines_most out.old }
-    requires counts_len { length counts.now ≡ 32 }
-    requires slots_len { length slots.now ≡ slots_length }
+fn board_lines(out: &mut [u8], place: usize, counts: &[u8; 32], slots: &[u8; SLOTS]) -> usize
+    requires { Room place board_lines_most out.old }
     ensures { Appended (counted_lines counts.now slots.now) place out.old out.new result }
 {
     let n = sheet_lines::call_count(counts);
@@ -35,10 +32,10 @@ fn fresh_lines(
     names: &mut [u8; NAMES],
     input: &[u8],
     out: &mut [u8],
-    rows: &mut [u8],
-    killers: &mut [u8],
-    slots: &mut [u8],
-    marks: &mut [u8],
+    rows: &mut [u8; ROWS],
+    killers: &mut [u8; KILLERS],
+    slots: &mut [u8; SLOTS],
+    marks: &mut [u8; MARKS],
 ) -> usize
     requires fits { Fits input.now out.old }
     requires represents_marked { RepresentsMarked fresh (marked_memory value names.old rows.old killers.old slots.old marks.old) }
@@ -50,14 +47,9 @@ fn fresh_lines(
         written: 0,
     };
     while progress.read < input.len() {
-        progress = crate::advance::advance(
-            progress, names, input, out, rows, killers, slots, marks,
-        );
+        progress = advance(progress, names, input, out, rows, killers, slots, marks);
     }
-    let end = progress.value;
-    let heads = end.heads;
-    let counts = heads.counts;
-    board_lines(out, progress.written, &counts, slots)
+    board_lines(out, progress.written, &progress.value.heads.counts, slots)
 }
 
 pub fn file_lines(input: &[u8], out: &mut [u8]) -> usize
@@ -68,12 +60,10 @@ pub fn file_lines(input: &[u8], out: &mut [u8]) -> usize
     let mut killers = [255u8; KILLERS];
     let mut slots = [254u8; SLOTS];
     let mut marks = [0u8; MARKS];
-    let held = MarkedValue::fresh();
-    let value = held.value;
-    let mut names = held.names;
+    let mut held = MarkedValue::fresh();
     fresh_lines(
-        value,
-        &mut names,
+        held.value,
+        &mut held.names,
         input,
         out,
         &mut rows,

@@ -28,9 +28,9 @@ fn input_lines(input: &[u8], out: &mut [u8]) -> usize
     ensures { Lined (input_lines input.now) out.old out.new result }
 {
     if INPUT < input.len() {
-        return crate::line::refusal_line(out, 0, 0, FILE_LENGTH);
+        return line::refusal_line(out, 0, 0, FILE_LENGTH);
     }
-    crate::file::file_lines(input, out)
+    file::file_lines(input, out)
 }
 
 // Writes the sheet of the input to the start of the buffer. A buffer that is too short for the longest sheet is refused.

@@ -3,19 +3,13 @@ ghost use Rattle.std.specs.Prelude.{◌≡◌};
 ghost use Rattle.model.specs.Commands.{kind_of};
 ghost use Rattle.model.specs.Sheet.{refused_line};
 ghost use Rattle.sheet_lines.specs.Append.{Room};
-ghost use Rattle.sheet.specs.Line.{Wide, ShortAnswer, LineAppended, answer_line};
+ghost use Rattle.sheet.specs.Line.{ShortAnswer, LineAppended, answer_line};
 ghost use Rattle.sheet_lines.specs.Lengths.{line_most};
 
 use model::answer::Answer;
 use model::command::Command;
 
-// A byte as a number of a line.
-fn wide(b: u8) -> usize
-    ensures { Wide b result }
-{
-    b as usize
-}
-
+// The number of a kind.
 fn kind_of(command: Command) -> u8
     ensures { result ≡ kind_of command }
 {
@@ -37,9 +31,7 @@ pub fn refusal_line(out: &mut [u8], place: usize, kind: u8, number: u8) -> usize
     requires { Room place line_most out.old }
     ensures { LineAppended (refused_line kind number) place out.old out.new result }
 {
-    let k = wide(kind);
-    let n = wide(number);
-    sheet_lines::refused_line(out, place, k, n)
+    sheet_lines::refused_line(out, place, usize::from(kind), usize::from(number))
 }
 
 // The line of a command that was answered so.
@@ -51,8 +43,13 @@ pub fn answer_line(out: &mut [u8], place: usize, command: Command, answer: Answe
     let kind = kind_of(command);
     match answer {
         Answer::Accepted(report) => {
-            let k = wide(kind);
-            sheet_lines::accepted_line(out, place, k, report.struck, report.reopened)
+            sheet_lines::accepted_line(
+                out,
+                place,
+                usize::from(kind),
+                report.struck,
+                report.reopened,
+            )
         }
         Answer::Refused(number) => refusal_line(out, place, kind, number),
     }
