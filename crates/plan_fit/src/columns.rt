@@ -6,6 +6,7 @@ use layout::places::{cap, is_cancelled};
 use layout::value::Heads;
 
 // The call of column k of rule p; 255 where the column does not count, since it is none of the rule's or its call is cancelled.
+#[tactic(auto, unfolding(crate::specs::Words::column_call))]
 pub fn column_call(heads: &Heads, slots: &[u8], p: usize, k: usize) -> u8
     requires p_bound { p < 64 }
     requires k_bound { k < 4 }
