@@ -1,7 +1,6 @@
--- What the checks are handed of the state that the question is asked of.
-use Rattle.std.specs.Prelude.{List, [], ℕ}
-use Rattle.layout.specs.Memory.{State, state_of_parts}
+-- What the checks are handed of the state that the question is asked of, and what they give of it.
+use Rattle.std.specs.Prelude.{ℕ, cond, ltb, Option, Some, None}
 
--- the calls, and all that is lent
-abbrev pub check_parts : List ℕ → List ℕ → List ℕ → List ℕ → State
-check_parts counts rows killers slots = state_of_parts counts [] [] [] rows killers slots
+-- THE NUMBER OF A RULE, where 64 stands for none
+abbrev pub rule_below : ℕ → Option ℕ
+rule_below p = cond (ltb p 64) (Some p) None
