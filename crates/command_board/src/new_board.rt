@@ -7,7 +7,7 @@ ghost use Rattle.layout.specs.Sizes.{slots_length};
 
 use layout::value::{Draft, Heads, KILLERS, ROWS, SLOTS, Value};
 use model::answer::Outcome;
-use model::refusal::BAD_COUNTS;
+use model::refusal::Refusal;
 
 // Whether a count n is over 32, or is another than 0 where a 0 came before it.
 fn bad_count(n: u8, ended: bool) -> bool
@@ -90,7 +90,7 @@ pub fn make_board(
         (memory result.value rows.new killers.new slots.new) }
 {
     if bad_counts(&counts) {
-        return Outcome::refused(BAD_COUNTS, value);
+        return Outcome::refused(Refusal::BadCounts, value);
     }
     clear(rows, killers, slots, &counts);
     Outcome::accepted(0, 0, 0, bare_value(counts))

@@ -6,7 +6,7 @@ ghost use Rattle.std.specs.Prelude.{◌≡◌, true, ◌+◌, ◌≤◌, length}
 ghost use Rattle.model.specs.Commands.{is_kind, body_size, head_at, row_at, gap_at, command_at, counts_at, without, read_at};
 
 use model::command::{Command, Decoded, GapRule, Head, Read, Row};
-use model::refusal::{BODY_LENGTH, UNKNOWN_KIND};
+use model::refusal::Refusal;
 
 fn is_kind(k: u8) -> bool
     ensures { result ≡ is_kind k }
@@ -117,13 +117,13 @@ pub fn decode(s: &[u8], at: usize) -> Decoded
         return without(Read::End, at);
     };
     if !is_kind(k) {
-        return without(Read::Refused(k, UNKNOWN_KIND), at);
+        return without(Read::Refused(k, Refusal::UnknownKind), at);
     }
     let b = at + 1;
     let n = body_length(k);
     // a difference, since b + n could wrap
     if s.len() - b < n {
-        return without(Read::Refused(k, BODY_LENGTH), at);
+        return without(Read::Refused(k, Refusal::BodyLength), at);
     }
     Decoded {
         read: Read::Command(command_at(s, k, b)),
