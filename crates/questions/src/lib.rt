@@ -14,18 +14,25 @@ use crate::read::{call_of, lowest_support, open_mask};
 use crate::refusal::{call_refusal, row_refusal, slot_refusal, support_refusal};
 use layout::places::{CANCELLED, byte_at, is_cancelled};
 use layout::value::Value;
-use model::answer::{OpenSlots, RowState, SlotState, Support};
+use model::answer::{OpenSlots, RowState, SlotState};
+use model::refusal::Refusal;
 
 // The mask of a call's open slots, with the number of its ones.
-pub fn open_slots(value: Value, rows: &[u8], killers: &[u8], slots: &[u8], call: u8) -> OpenSlots
+pub fn open_slots(
+    value: Value,
+    rows: &[u8],
+    killers: &[u8],
+    slots: &[u8],
+    call: u8,
+) -> Result<OpenSlots, Refusal>
     ensures { SlotsPromise (memory value rows.now killers.now slots.now) call result }
 {
-    let refusal = call_refusal(&value.heads, rows, killers, slots, call);
-    if refusal != 0 {
-        return OpenSlots::Refused(refusal);
-    }
+    call_refusal(&value.heads, rows, killers, slots, call)?;
     let mask = open_mask(slots, call);
-    OpenSlots::Mask(mask, mask.count_ones())
+    Ok(OpenSlots {
+        mask,
+        count: mask.count_ones(),
+    })
 }
 
 // Open, struck with its cause, or of a cancelled call.
@@ -36,18 +43,15 @@ pub fn slot_state(
     slots: &[u8],
     call: u8,
     slot: u8,
-) -> SlotState
+) -> Result<SlotState, Refusal>
     ensures { StatePromise (memory value rows.now killers.now slots.now) call slot result }
 {
-    let refusal = slot_refusal(&value.heads, rows, killers, slots, call, slot);
-    if refusal != 0 {
-        return SlotState::Refused(refusal);
-    }
+    slot_refusal(&value.heads, rows, killers, slots, call, slot)?;
     // a value that the host altered may count more than 32 slots, so the place may lie past the buffer
     match byte_at(slots, 32 * usize::from(call) + usize::from(slot)) {
-        255 => SlotState::Open,
-        CANCELLED => SlotState::Cancelled,
-        byte => SlotState::Struck(byte),
+        255 => Ok(SlotState::Open),
+        CANCELLED => Ok(SlotState::Cancelled),
+        byte => Ok(SlotState::Struck(byte)),
     }
 }
 
@@ -59,16 +63,13 @@ pub fn row_state(
     slots: &[u8],
     rule: u8,
     row: u8,
-) -> RowState
+) -> Result<RowState, Refusal>
     ensures { RowPromise (memory value rows.now killers.now slots.now) rule row result }
 {
-    let refusal = row_refusal(&value.heads, rows, killers, slots, rule, row);
-    if refusal != 0 {
-        return RowState::Refused(refusal);
-    }
+    row_refusal(&value.heads, rows, killers, slots, rule, row)?;
     match killers[64 * usize::from(rule) + usize::from(row)] {
-        255 => RowState::Alive,
-        byte => RowState::Killed(byte),
+        255 => Ok(RowState::Alive),
+        byte => Ok(RowState::Killed(byte)),
     }
 }
 
@@ -83,8 +84,7 @@ pub fn row_bytes<'a>(
 ) -> &'a [u8]
     ensures { RowPart value rows.entry killers.now slots.now rule row result }
 {
-    let refusal = row_refusal(&value.heads, rows, killers, slots, rule, row);
-    if refusal != 0 {
+    if row_refusal(&value.heads, rows, killers, slots, rule, row).is_err() {
         return &rows[..0];
     }
     let start = 256 * usize::from(rule) + 4 * usize::from(row);
@@ -100,15 +100,12 @@ pub fn support(
     rule: u8,
     column: u8,
     slot: u8,
-) -> Support
+) -> Result<Option<u8>, Refusal>
     ensures { SupportPromise (memory value rows.now killers.now slots.now) rule column slot result }
 {
-    let refusal = support_refusal(&value.heads, rows, killers, slots, rule, column, slot);
-    if refusal != 0 {
-        return Support::Refused(refusal);
-    }
+    support_refusal(&value.heads, rows, killers, slots, rule, column, slot)?;
     if is_cancelled(slots, call_of(&value.heads, rule, column)) {
-        return Support::Nothing;
+        return Ok(None);
     }
-    lowest_support(&value.heads, rows, killers, rule, column, slot)
+    Ok(lowest_support(&value.heads, rows, killers, rule, column, slot))
 }

@@ -9,7 +9,6 @@ ghost use Rattle.questions.specs.Parts.{search_parts, Searchable, active_support
 use crate::weights::slot_weights;
 use layout::places::byte_at;
 use layout::value::Heads;
-use model::answer::Support;
 
 // The slots of a call; 0 where there is no such call.
 pub fn slots_held(heads: &Heads, call: u8) -> u8
@@ -71,14 +70,14 @@ pub fn lowest_support(
     rule: u8,
     column: u8,
     slot: u8,
-) -> Support
+) -> Option<u8>
     requires { Searchable rows.now killers.now rule (rows_of heads.now.lengths rule) column }
     ensures { result ≡ active_support (state_of_heads heads.now rows.now killers.now []) rule column slot }
 {
     for row in 0..rows_of(heads, rule) {
         if supports(rows, killers, rule, row, column, slot) {
-            return Support::Row(row);
+            return Some(row);
         }
     }
-    Support::Nothing
+    None
 }
