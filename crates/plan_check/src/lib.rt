@@ -11,12 +11,17 @@ ghost use Rattle.plan_model.specs.Check.{PlanPromise};
 use crate::broken::lowest_broken;
 use crate::wrong::wrong_plan;
 use layout::value::{KILLERS, ROWS, SLOTS, Value};
-use model::refusal::{BAD_PLAN_BYTE, BUFFER_LENGTH, NO_BOARD, PLAN_LENGTH};
-use plan_model::answer::PlanCheck;
+use model::refusal::Refusal;
 
-// Whether the plan, 32 bytes with a slot for each call, keeps every rule in force. The checks of the question are in the order of SCOPE 4.3: 1, 32, 6, 33; the bytes are
-// looked at last, where nothing else is refused.
-pub fn check_plan(value: Value, rows: &[u8], killers: &[u8], slots: &[u8], plan: &[u8]) -> PlanCheck
+// The lowest number of a rule in force that the plan, 32 bytes with a slot for each call, breaks; none where it keeps them all. The checks of the question are in the
+// order of SCOPE 4.3: 1, 32, 6, 33; the bytes are looked at last, where nothing else is refused.
+pub fn check_plan(
+    value: Value,
+    rows: &[u8],
+    killers: &[u8],
+    slots: &[u8],
+    plan: &[u8],
+) -> Result<Option<u8>, Refusal>
     ensures { PlanPromise (memory value rows.now killers.now slots.now) plan.now result }
 {
     let (Some(rows), Some(_), Some(slots)) = (
@@ -24,19 +29,16 @@ pub fn check_plan(value: Value, rows: &[u8], killers: &[u8], slots: &[u8], plan:
         killers.as_array::<KILLERS>(),
         slots.as_array::<SLOTS>(),
     ) else {
-        return PlanCheck::Refused(BUFFER_LENGTH);
+        return Err(Refusal::BufferLength);
     };
     let Some(plan) = plan.as_array::<32>() else {
-        return PlanCheck::Refused(PLAN_LENGTH);
+        return Err(Refusal::PlanLength);
     };
     if value.heads.counts[0] == 0 {
-        return PlanCheck::Refused(NO_BOARD);
+        return Err(Refusal::NoBoard);
     }
     if wrong_plan(&value.heads.counts, slots, plan) {
-        return PlanCheck::Refused(BAD_PLAN_BYTE);
+        return Err(Refusal::BadPlanByte);
     }
-    match lowest_broken(&value.heads, rows, slots, plan) {
-        Some(p) => PlanCheck::Broken(p),
-        None => PlanCheck::Kept,
-    }
+    Ok(lowest_broken(&value.heads, rows, slots, plan))
 }

@@ -1,6 +1,6 @@
 -- The first check that holds decides; behind them the lowest broken rule does.
 use Rattle.layout.specs.Memory.{memory}
-use Rattle.plan_check.specs.Laws.Answers.{killers_refused, slots_refused, length_refused, board_refused, byte_refused, plan_broken, plan_kept}
+use Rattle.plan_check.specs.Laws.Answers.{killers_refused, slots_refused, length_refused, board_refused, byte_refused, plan_given}
 use Rattle.plan_check.proofs.check_plan.Goals as goal
 
 pub returns-in_default : goal.returns-in_default
@@ -25,12 +25,7 @@ returns-then-wrong_plan c =
     byte_refused (memory c.args.value c.args.rows.now c.args.killers.now c.args.slots.now) c.args.plan.now c.in-Some-Some-Some.ensures.cases.long c.in-Some-Some-Some.ensures'.cases.long c.in-Some-Some-Some.ensures''.cases.long c.in-Some.ensures.cases.long c.if-value-eq0.false
     (rw (c.in-Some-Some-Some.ensures''.cases.same, c.in-Some.ensures.cases.same) at c.wrong_plan.ensures) c.if-wrong_plan.true
 
-pub returns-in-Some-lowest_broken : goal.returns-in-Some-lowest_broken
-returns-in-Some-lowest_broken c =
-    plan_broken (memory c.args.value c.args.rows.now c.args.killers.now c.args.slots.now) c.args.plan.now c.in-Some-Some-Some.ensures.cases.long c.in-Some-Some-Some.ensures'.cases.long c.in-Some-Some-Some.ensures''.cases.long c.in-Some.ensures.cases.long c.if-value-eq0.false
-    (rw (c.in-Some-Some-Some.ensures''.cases.same, c.in-Some.ensures.cases.same) at c.wrong_plan.ensures) c.if-wrong_plan.false (rw (c.in-Some-Some-Some.ensures.cases.same, c.in-Some-Some-Some.ensures''.cases.same, c.in-Some.ensures.cases.same) at c.lowest_broken.ensures) c.in-Some-lowest_broken.is
-
-pub returns-in-None : goal.returns-in-None
-returns-in-None c =
-    plan_kept (memory c.args.value c.args.rows.now c.args.killers.now c.args.slots.now) c.args.plan.now c.in-Some-Some-Some.ensures.cases.long c.in-Some-Some-Some.ensures'.cases.long c.in-Some-Some-Some.ensures''.cases.long c.in-Some.ensures.cases.long c.if-value-eq0.false
-    (rw (c.in-Some-Some-Some.ensures''.cases.same, c.in-Some.ensures.cases.same) at c.wrong_plan.ensures) c.if-wrong_plan.false (rw (c.in-Some-Some-Some.ensures.cases.same, c.in-Some-Some-Some.ensures''.cases.same, c.in-Some.ensures.cases.same) at c.lowest_broken.ensures) c.in-None.is
+pub returns : goal.returns
+returns c =
+    plan_given (memory c.args.value c.args.rows.now c.args.killers.now c.args.slots.now) c.args.plan.now c.in-Some-Some-Some.ensures.cases.long c.in-Some-Some-Some.ensures'.cases.long c.in-Some-Some-Some.ensures''.cases.long c.in-Some.ensures.cases.long c.if-value-eq0.false
+    (rw (c.in-Some-Some-Some.ensures''.cases.same, c.in-Some.ensures.cases.same) at c.wrong_plan.ensures) c.if-wrong_plan.false (rw (c.in-Some-Some-Some.ensures.cases.same, c.in-Some-Some-Some.ensures''.cases.same, c.in-Some.ensures.cases.same) at c.lowest_broken.ensures)
