@@ -8,11 +8,12 @@ mod first; // the search from the tables to the answer
 ghost use Rattle.layout.specs.Memory.{memory};
 ghost use Rattle.plan_search.specs.First.{FirstPromise};
 
-use crate::first::{board_refusal, lay_plan, plan_answer};
-use layout::value::Value;
+use crate::first::{lay_plan, plan_answer, without_plan};
+use layout::value::{KILLERS, ROWS, SLOTS, Value};
+use model::refusal::{BUFFER_LENGTH, NO_BOARD};
 use plan_search::answer::{FirstPlan, PlanAnswer};
 
-// The first full plan with the trials of the search; that there is none; or that the search needs more trials than the ceiling.
+// The first full plan with the trials of the search; that there is none; or that the search needs more trials than the ceiling. The checks of the question are 1 and 6.
 pub fn first_plan(
     value: Value,
     rows: &[u8],
@@ -22,17 +23,15 @@ pub fn first_plan(
 ) -> PlanAnswer
     ensures { FirstPromise (memory value rows.now killers.now slots.now) ceiling result }
 {
-    let counts = value.heads.counts;
-    let arity = value.heads.arity;
-    let scope = value.heads.scope;
-    let lengths = value.heads.lengths;
-    let refusal = board_refusal(&counts, rows, killers, slots);
-    if refusal != 0 {
-        return PlanAnswer {
-            answer: FirstPlan::Refused(refusal),
-            plan: [255u8; 32],
-        };
+    let (Some(rows), Some(_), Some(slots)) = (
+        rows.as_array::<ROWS>(),
+        killers.as_array::<KILLERS>(),
+        slots.as_array::<SLOTS>(),
+    ) else {
+        return without_plan(FirstPlan::Refused(BUFFER_LENGTH));
+    };
+    if value.heads.counts[0] == 0 {
+        return without_plan(FirstPlan::Refused(NO_BOARD));
     }
-    let laid = lay_plan(&counts, &arity, &scope, &lengths, rows, slots, ceiling);
-    plan_answer(laid, ceiling)
+    plan_answer(lay_plan(&value.heads, rows, slots, ceiling), ceiling)
 }

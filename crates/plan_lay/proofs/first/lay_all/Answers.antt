@@ -1,5 +1,5 @@
 -- No call is laid, and all trials are left.
-use native.Mathlib.Omega.{arith}
+use Rattle.std.proofs.Common.{arith}
 use Rattle.plan_search.proofs.Laws.Full.{clear_first}
 use Rattle.plan_lay.specs.Laws.Answers.{all_laid}
 use Rattle.plan_lay.proofs.first.lay_all.Goals as goal
@@ -8,4 +8,4 @@ pub lay_calls-ending-requires : goal.lay_calls-ending-requires
 lay_calls-ending-requires c = record { clear = clear_first; left_nonzero = omega arith; call_bound = omega arith }
 
 pub returns : goal.returns
-returns c = all_laid _ _ c.lay_calls-ending.ensures c.trials_made.ensures
+returns c = all_laid _ _ (rw c.from.ensures at c.lay_calls-ending.ensures) c.trials_made.ensures
