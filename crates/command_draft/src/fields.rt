@@ -1,4 +1,4 @@
-// The checks of fields that kinds 2 and 3 make, and kind 6 one of them: each looks at one condition of SCOPE 4.1, over the bytes, whatever they hold.
+// The checks of fields that kinds 2 and 3 make, and kind 6 some of them: each looks at one condition of SCOPE 4.1, over the bytes, whatever they hold.
 ghost use Rattle.std.specs.Prelude.{◌≡◌, ◌≤◌, ◌<◌};
 ghost use Rattle.model.specs.Ledger.{bad_spare?};
 ghost use Rattle.command_draft.specs.Fields.{off_board?, call_off_board?, call_cancelled?, call_before?, call_twice?, bad_arity?, slot_off?, slot_off_call?, same_row?, row_in_draft?};

@@ -3,7 +3,7 @@
 // Proved: what each answers and leaves is what specs/Promise.antt of the crate model says; all of it is safe on any contents. Assumed: nothing.
 #![tactic(auto)]
 
-pub mod fields; // the checks that kinds 2 and 3 share
+pub mod fields; // the checks that kinds 2, 3 and 6 share
 pub mod redraft; // what they give back of a draft, and their outcome
 pub mod head; // kind 2
 pub mod row; // kind 3

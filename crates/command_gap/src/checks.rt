@@ -1,13 +1,10 @@
 // The checks of a gap rule's five fields, over any slot counts.
-ghost use Rattle.std.specs.Prelude.{◌≡◌, ◌||◌};
-ghost use Rattle.command_draft.specs.Fields.{off_board?};
+ghost use Rattle.std.specs.Prelude.{◌≡◌};
 ghost use Rattle.command_gap.specs.Checks.{field_checks};
-ghost use Rattle.layout.specs.Places.{cancelled?};
 ghost use Rattle.model.specs.Gaps.{bad_form?, bad_gap?};
 ghost use Rattle.model.specs.Refusals.{first_of};
 
 use command_draft::fields;
-use crate::draft::scope_of;
 use model::command::GapRule;
 use model::refusal::{
     BAD_FORM, BAD_GAP, BAD_NUMBER, CALL_OFF_BOARD, CALL_TWICE, CANCELLED_CALL, NO_BOARD, or_refuse,
@@ -31,14 +28,14 @@ fn bad_gap(form: u8, gap: u8) -> bool
 pub fn check_fields(counts: &[u8; 32], slots: &[u8], f: GapRule) -> u8
     ensures { result ≡ first_of (field_checks counts.now slots.now f) }
 {
-    let scope = scope_of(f);
+    let calls = [f.first, f.second, 255, 255];
     let n = or_refuse(0, counts[0] == 0, NO_BOARD);
     let n = or_refuse(n, 63 < f.number, BAD_NUMBER);
     let n = or_refuse(n, bad_form(f.form), BAD_FORM);
-    let off_board = fields::call_off_board(counts, &scope, 2);
-    let n = or_refuse(n, off_board, CALL_OFF_BOARD);
-    let cancelled = fields::call_cancelled(slots, &scope, 2);
+    let off = fields::call_off_board(counts, &calls, 2);
+    let n = or_refuse(n, off, CALL_OFF_BOARD);
+    let cancelled = fields::call_cancelled(slots, &calls, 2);
     let n = or_refuse(n, cancelled, CANCELLED_CALL);
-    let n = or_refuse(n, fields::call_twice(&scope, 2), CALL_TWICE);
+    let n = or_refuse(n, fields::call_twice(&calls, 2), CALL_TWICE);
     or_refuse(n, bad_gap(f.form, f.gap), BAD_GAP)
 }

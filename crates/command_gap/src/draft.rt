@@ -1,7 +1,7 @@
 // The draft of a gap rule: its two calls, with the pairs that fit as rows.
 ghost use Rattle.command_gap.specs.Draft.{DraftOfGap};
 
-use crate::pairs::{Test, list_pairs};
+use crate::pairs::{Pairs, Test, list_pairs};
 use layout::value::{Draft, RuleData};
 use model::command::GapRule;
 
@@ -21,17 +21,17 @@ pub fn draft_of(counts: &[u8; 32], f: GapRule) -> GapDraft
         gap: f.gap,
         seconds: counts[usize::from(f.second % 32)],
     };
-    let pairs = list_pairs(test, counts[usize::from(f.first % 32)]);
+    let Pairs { rows, count } = list_pairs(test, counts[usize::from(f.first % 32)]);
     GapDraft {
         draft: Draft {
             number: f.number,
             rule: RuleData {
                 arity: 2,
                 scope: [f.first, f.second, 255, 255],
-                length: (pairs.count % 256) as u8,
-                rows: pairs.rows,
+                length: (count % 256) as u8,
+                rows,
             },
         },
-        count: pairs.count,
+        count,
     }
 }

@@ -5,16 +5,12 @@ use Rattle.command_mark.proofs.keep.keep_board.Goals as goal
 
 pub returns-then-n-ne0 : goal.returns-then-n-ne0
 returns-then-n-ne0 c =
-    let tested = c in
-    let a = tested.args in
+    let a = c.args in
     rw c.refused.ensures
-    (keep_refused a.name (marked_memory a.value a.names.now a.rows.now a.killers.now a.slots.now a.marks.now) _ tested.if-n-ne0.true tested.check_keep-n.ensures)
+    (keep_refused a.name (marked_memory a.value a.names.now a.rows.now a.killers.now a.slots.now a.marks.now) _ c.if-n-ne0.true c.check_keep-n.ensures)
 
 pub returns : goal.returns
 returns c =
-    let kept = c in
-    let tested = kept in
-    let checked = tested.check_keep-n.ensures in
-    let a = tested.args in
-    keep_accepted a.name (marked_memory a.value a.names.now a.rows.now a.killers.now a.slots.now a.marks.now) _ _ _ tested.if-n-ne0.false checked
-    (name_known a.value.heads.counts a.name _ tested.if-n-ne0.false checked) kept.keep_unchecked.ensures
+    let a = c.args in
+    keep_accepted a.name (marked_memory a.value a.names.now a.rows.now a.killers.now a.slots.now a.marks.now) _ _ _ c.if-n-ne0.false c.check_keep-n.ensures
+    (name_known a.value.heads.counts a.name _ c.if-n-ne0.false c.check_keep-n.ensures) c.keep_unchecked.ensures
