@@ -8,4 +8,4 @@ pub loop-k-init : goal.loop-k-init
 loop-k-init c = inserted_bare _ _ _
 
 pub loop-k-preserved : goal.loop-k-preserved
-loop-k-preserved c = rw (shl_one 64 c.args.q c.requires.q_bound) (inserted_more _ _ _ c.loop-k.invariant (omega arith))
+loop-k-preserved c = rw (c.from-c.ensures, shl_one 64 c.args.q c.requires.q_bound) (inserted_more _ _ _ c.loop-k.invariant (omega arith))
