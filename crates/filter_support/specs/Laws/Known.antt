@@ -19,10 +19,6 @@ use Rattle.filter_support.specs.Laws.Strikes.{was_open, strikes_open}
 pub known_none : (slots : List ℕ) (masks : CallMasks) → masks.known ≡ 0 → Known slots masks
 known_none slots masks e = record { each = λ c l h. absurd (has_some masks.known c h e) }
 
--- of what is known, a part
-pub known_some : {C D : ℕ → Type 0} {slots : List ℕ} {masks : CallMasks} → ((c : ℕ) → D c → C c) → KnownCalls C slots masks → KnownCalls D slots masks
-known_some f x = record { each = λ c l d. x.each c l (f c d) }
-
 -- ONE CALL: its masks are known, or are made
 pub learnt_before : (slots : List ℕ) (masks : CallMasks) (c : ℕ) → c < 32 → Known slots masks → (bit_and (1 * 2 ^ c % 4294967296) masks.known ≡ 0 → ⊥) → Learnt (λ d. d ≡ c) slots masks masks
 learnt_before slots masks c l x n =
@@ -100,10 +96,6 @@ still_none slots masks = record { same = refl; each = λ c l k. k }
 pub still_more : {a b e : List ℕ} {x y z : CallMasks} → StillKnown a x b y → StillKnown b y e z → StillKnown a x e z
 still_more s t = record { same = t.same ∙ s.same; each = λ c l k. t.each c l (s.each c l k) }
 
-pub known_still : {C : ℕ → Type 0} {a b : List ℕ} {x y : CallMasks} → KnownCalls C a x → StillKnown a x b y → KnownCalls C b y
-known_still k s = record { each = λ c l h. s.each c l (k.each c l h) }
-
--- so what is said to be known is known
 pub masks_still : {a b : List ℕ} {x y : CallMasks} → Known a x → StillKnown a x b y → Known b y
 masks_still k s = record { each = λ c l h. s.each c l (k.each c l (rw s.same at h)) }
 

@@ -38,9 +38,6 @@ module _ (Q : ℕ → ℕ → Type 0) (p : ℕ) where
   strikes_more {n} {a = a} {b = b} {c = c} x y =
       record { assigned = assign_more 0 p OpenByte Q n a b c x.assigned y.assigned; drop = omega (arith, y.drop, x.drop) }
 
-  pub strikes_at : {n m h : ℕ} {a b : List ℕ} → SlotsStruck (Below Q n) p h a b → n ≤ m → m ≤ n → SlotsStruck (Below Q m) p h a b
-  strikes_at x l g = record { assigned = assign_at 0 p OpenByte Q x.assigned l g; drop = x.drop }
-
 -- what is struck so far and next is no more than there are bytes
 pub strikes_fit : {P Q : ℕ → Type 0} {p h r : ℕ} (a b c : List ℕ) → SlotsStruck P p h a b → SlotsStruck Q p r b c → h + r ≤ length a
 strikes_fit a b c x y = omega (arith, y.drop, x.drop, count_le is_open a)
@@ -202,6 +199,3 @@ module _ (N : ℕ → ℕ → Type 0) (scope : List ℕ) (p : ℕ) where
         strikes = strikes_more (ColumnWith N scope p) p x.strikes y;
         calls_struck = calls_more (N k) (call_of scope p k) p lp a b d x.strikes y (omega arith) x.calls_struck w;
       }
-
-  pub columns_at_lem : {k n h calls : ℕ} {a b : List ℕ} → ColumnsStruck N scope p k h calls a b → k ≤ n → n ≤ k → ColumnsStruck N scope p n h calls a b
-  columns_at_lem x l g = record { strikes = strikes_at _ p x.strikes l g; calls_struck = x.calls_struck }

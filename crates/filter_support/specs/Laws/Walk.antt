@@ -117,9 +117,6 @@ module _ (rows : List ℕ) (struck : Columns) (p : ℕ) where
           (λ t. record { row = w; inside = omega arith; lives = t.0; holds = t.1 })
           (b.only k s l i)
 
-  pub walked_at : {w m : ℕ} {killers killed : List ℕ} {x : Columns} → Walked rows struck p w killers killed x → w ≤ m → m ≤ w → Walked rows struck p m killers killed x
-  walked_at {w} {m} a l g = let e : m ≡ w = omega arith in rw e a
-
 -- WHAT THE MASKS MEAN: a row is killed as its slots' bytes say
 module _ (rows slots scope : List ℕ) (p n : ℕ) (few : n ≤ 4) (struck : Columns) (known : StruckSets slots scope p n struck) where
   in_struck : (w k : ℕ) → k < n → InColumn struck k (slot_of rows p w k) → HoldsStruck rows slots scope p w k
