@@ -59,23 +59,7 @@ learnt_made slots masks c {a} {b} l la lb x ma mb =
 
 -- THE CALLS OF A RULE'S COLUMNS, one after another
 module _ {scope : List ℕ} {p : ℕ} where
-  pub learnt_none : (slots : List ℕ) (masks : CallMasks) → Known slots masks → Learnt (ColumnCall scope p 0) slots masks masks
-  learnt_none slots masks x = record { masks = x; stays = λ d h. h; joins = λ d x. let l = x.inside in absurd (omega arith) }
 
-  pub learnt_more : {k : ℕ} {slots : List ℕ} {before between after : CallMasks} → Learnt (ColumnCall scope p k) slots before between
-      → Learnt (λ d. d ≡ call_of scope p k) slots between after → Learnt (ColumnCall scope p (k + 1)) slots before after
-  learnt_more {k} x y =
-      record {
-        masks = y.masks;
-        stays = λ d h. y.stays d (x.stays d h);
-        joins = λ d z.
-            let l = z.inside in
-            let le : z.column ≤ k = omega arith in
-            ⊎_elim
-            (λ (q : z.column ≡ k). y.joins d (rw q at z.is))
-            (λ lt. y.stays d (x.joins d (record { column = z.column; inside = lt; is = z.is })))
-            (eq-or-lt_of_le le);
-      }
 
   -- the sets of the columns' calls are those of their struck slots
   pub struck_sets : {n : ℕ} {slots : List ℕ} {before masks : CallMasks} {x : Columns} → Learnt (ColumnCall scope p n) slots before masks → ColumnSets masks.struck scope p n x

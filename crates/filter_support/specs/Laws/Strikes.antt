@@ -89,8 +89,6 @@ pub record Striking (lost p c : ℕ) (old new : List ℕ) (left total : ℕ) : T
   pub lowest_first : Left 32 lost left
   pub struck : SlotsStruck (Of (λ s j. j ≡ slot_place c s) (Removed lost left)) p total old new
 
-pub striking_none : (lost p c : ℕ) (l : List ℕ) → lost < 4294967296 → Striking lost p c l l lost 0
-striking_none lost p c l h = record { lowest_first = left_all 32 lost h; struck = strikes_keep _ p l (λ j q o. q.1.out q.1.had) }
 
 module _ {lost p c : ℕ} {old new : List ℕ} {left total : ℕ} (all : AllOpen old c lost) (some : left ≡ 0 → ⊥) (x : Striking lost p c old new left total) where
   pub slot_below : count_trailing_zeros 32 left < 32
@@ -138,8 +136,6 @@ call_joins {calls} {c} l some =
       only = λ d h. ⊎_elim (λ o. inl o) (λ o. inr (power_has c d o, some)) (or_either calls (2 ^ c) d h);
     })
 
-pub call_none : {calls c number : ℕ} → number ≡ 0 → WithCall calls c number calls
-call_none z = record { stays = λ d h. h; joins = λ s. absurd (omega arith); only = λ d h. inl h }
 
 -- when the slots of one call more are struck
 module _ (N : ℕ → Type 0) (c p : ℕ) (lp : p < 64) {Q : ℕ → Type 0} {h r : ℕ} (old mid new : List ℕ) (x : SlotsStruck Q p h old mid) (y : SlotsStruck (CallWith N c) p r mid new) where
