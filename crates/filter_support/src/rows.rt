@@ -5,7 +5,7 @@ ghost use Rattle.masks.specs.Columns.{PastEmpty};
 ghost use Rattle.filter_support.specs.Walk.{FirstMeeting, killer_now, alive_set, WithRow, RowWalked, Walked, WalkedColumns};
 
 use layout::value::{KILLERS, ROWS};
-use masks::columns::{first_columns, Columns};
+use masks::columns::{Columns, first_columns, row_slots};
 
 // The first column where the two sets meet, or 255.
 pub fn first_meeting(a: Columns, b: Columns) -> u8
@@ -64,7 +64,7 @@ pub fn revise_row(
     requires w_bound { w < 64 }
     ensures { RowWalked rows.now struck p w killers.old killers.new found result }
 {
-    let row = masks::columns::row_slots(rows, p, w);
+    let row = row_slots(rows, p, w);
     let first = first_meeting(row, struck);
     let now = killer_now(killers[64 * p + w], first);
     killers[64 * p + w] = now;
@@ -83,12 +83,7 @@ pub fn revise_rows(
     requires m_bound { m ≤ 64 }
     ensures { Walked rows.now struck p m killers.old killers.new result }
 {
-    let mut found = Columns {
-        c0: 0,
-        c1: 0,
-        c2: 0,
-        c3: 0,
-    };
+    let mut found = Columns::NONE;
     for w in 0..m {
         found = revise_row(rows, killers, struck, found, p, w);
     }

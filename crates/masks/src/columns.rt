@@ -14,6 +14,16 @@ pub struct Columns {
     pub c3: u32,
 }
 
+impl Columns {
+    // No slot for any column.
+    pub const NONE: Columns = Columns {
+        c0: 0,
+        c1: 0,
+        c2: 0,
+        c3: 0,
+    };
+}
+
 // The set of column k.
 pub fn column(x: Columns, k: usize) -> u32
     ensures { result ≡ column_of x k }
@@ -50,10 +60,7 @@ pub fn word(rows: &[u8; ROWS], i: usize) -> u32
     requires { i + 3 < ROWS }
     ensures { result ≡ word_at rows.now i }
 {
-    u32::from(rows[i])
-        + 256 * u32::from(rows[i + 1])
-        + 65536 * u32::from(rows[i + 2])
-        + 16777216 * u32::from(rows[i + 3])
+    u32::from_le_bytes([rows[i], rows[i + 1], rows[i + 2], rows[i + 3]])
 }
 
 // The mask of the slot in the lowest byte of a number.
@@ -84,7 +91,7 @@ pub fn column_set(sets: &[u32; 32], scope: &[u8; 256], p: usize, n: usize, k: us
     ensures { ColumnSet sets.now scope.now p n k result }
 {
     if k < n {
-        sets[(scope[4 * p + k] % 32) as usize]
+        sets[usize::from(scope[4 * p + k] % 32)]
     } else {
         0
     }

@@ -14,13 +14,6 @@ four P a b c d (suc (suc zero)) l = c
 four P a b c d (suc (suc (suc zero))) l = d
 four P a b c d (suc (suc (suc (suc k)))) l = absurd (omega arith)
 
--- past the first three there is one column
-pub column_last : (x : Columns) (k : ℕ) → (k ≡ 0 → ⊥) → (k ≡ 1 → ⊥) → (k ≡ 2 → ⊥) → column_of x k ≡ x.c3
-column_last x zero a b c = absurd (a refl)
-column_last x (suc zero) a b c = absurd (b refl)
-column_last x (suc (suc zero)) a b c = absurd (c refl)
-column_last x (suc (suc (suc k))) a b c = refl
-
 -- no column has a slot of none
 pub none_in : (k s : ℕ) → k < 4 → InColumn no_columns k s → ⊥
 none_in k s l = four (λ j. InColumn no_columns j s → ⊥) zero_in zero_in zero_in zero_in k l

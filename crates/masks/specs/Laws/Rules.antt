@@ -130,10 +130,6 @@ rules_more {arity} {scope} {q} {n} {a} {b} e x y = record { size = y.size ∙ x.
         (omega arith, rw f z))
         (y.only c s h)
 
--- after the last rule, where the loop's test says that n is m
-pub rules_at : {arity scope : List ℕ} {n m : ℕ} {l : List ℕ} → RulesTo arity scope n l → n ≤ m → m ≤ n → RulesTo arity scope m l
-rules_at {n = n} {m = m} x le ge = let e : m ≡ n = omega arith in rw e x
-
 -- A RULE LEAVES a mask of 64 rules
 pub without_power : (m p : ℕ) → p < 64 → Without p m (bit_and m ((2 ^ 64 - 1) - 2 ^ p))
 without_power m p l =

@@ -1,5 +1,5 @@
 -- The mask of a call's slots, slot by slot, and what is in one set and not in another. Assumes nothing.
-use Rattle.std.specs.Prelude.{◌≡◌, List, Bool, true, false, ℕ, ◌+◌, ◌-◌, ◌*◌, ◌%◌, ◌^◌, ◌≤◌, ◌<◌}
+use Rattle.std.specs.Prelude.{◌≡◌, List, Bool, true, false, ℕ, ◌+◌, ◌-◌, ◌*◌, ◌%◌, ◌^◌, ◌<◌}
 use Rattle.std.proofs.Common.{⊎_elim, arith, shl_exact}
 use Rattle.std.specs.Int.Bits.{bit_and, bit_or}
 use Rattle.tables.specs.Count.{bit}

@@ -1,5 +1,5 @@
 -- One slot more is tested with each round.
-use Rattle.std.proofs.Common.{arith, rules}
+use Rattle.std.proofs.Common.{arith}
 use Rattle.masks.specs.Laws.Slots.{tested_none, tested_more}
 use Rattle.masks.proofs.slots.slots_where.Goals as goal
 
