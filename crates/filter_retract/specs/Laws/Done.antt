@@ -2,7 +2,7 @@
 use Rattle.std.specs.Prelude.{◌≡◌, refl, List, ℕ, ◌-◌, ◌<◌, Bool, replicate}
 use Rattle.std.proofs.Common.{◌∙◌}
 use Rattle.tables.specs.Masks.{flags_of, all_flags}
-use Rattle.masks.specs.Rules.{RulesOn, RuleDropped, Without}
+use Rattle.masks.specs.Rules.{RulesTo, RuleDropped, Without}
 use Rattle.filter_propagate.specs.Rules.{RuleBytes, reached}
 use Rattle.filter_propagate.specs.Queue.{IsFlagged}
 use Rattle.filter_propagate.specs.Steps.{Propagated}
@@ -39,7 +39,7 @@ module _ {p : ℕ} {R R' : RuleBytes} {killers emptied : List ℕ} (c : RuleClea
   cleared_sizes s =
       record { rows_size = c.written.rows_size ∙ s.rows_size; killers_size = c.killers_empty.len ∙ s.killers_size; slots_size = s.slots_size }
 
-  pub cleared_rules : {on on' : List ℕ} → p < 64 → RulesOn R.arity R.scope on → RuleDropped p on on' → RulesOn R'.arity R'.scope on'
+  pub cleared_rules : {on on' : List ℕ} → p < 64 → RulesTo R.arity R.scope 64 on → RuleDropped p on on' → RulesTo R'.arity R'.scope 64 on'
   cleared_rules {on = on} {on' = on'} lp known d =
       dropped_rules R.arity R.scope R'.arity R'.scope on on' p lp known d c.written.arity
       (λ q ne lq. let same = c.written.other q ne in (same.arity, same.scope))
