@@ -3,6 +3,7 @@ ghost use Rattle.std.specs.Prelude.{◌≡◌, ◌≤◌, ◌<◌};
 ghost use Rattle.filter_support.specs.Known.{Known, ColumnCall, Learnt};
 
 use layout::value::SLOTS;
+use masks::slots::{slots_below, slots_with};
 
 // The tables, and the mask of the calls that they know.
 #[derive(Clone, Copy)]
@@ -31,12 +32,12 @@ pub fn know_call(slots: &[u8; SLOTS], masks: &mut CallMasks, c: usize)
     requires known { Known slots.now masks.old }
     ensures { Learnt (λ d. d ≡ c) slots.now masks.old masks.new }
 {
-    let bit = 1u32 << (c as u32);
+    let bit = 1 << c;
     if bit & masks.known != 0 {
         return;
     }
-    masks.opened[c] = masks::slots::slots_with(slots, c, 255);
-    masks.struck[c] = masks::slots::slots_below(slots, c, 64);
+    masks.opened[c] = slots_with(slots, c, 255);
+    masks.struck[c] = slots_below(slots, c, 64);
     masks.known |= bit;
 }
 

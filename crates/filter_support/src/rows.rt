@@ -5,7 +5,7 @@ ghost use Rattle.masks.specs.Columns.{PastEmpty};
 ghost use Rattle.filter_support.specs.Walk.{FirstMeeting, killer_now, alive_set, WithRow, RowWalked, Walked, WalkedColumns};
 
 use layout::value::{KILLERS, ROWS};
-use masks::columns::Columns;
+use masks::columns::{first_columns, row_slots, Columns};
 
 // The first column where the two sets meet, or 255.
 pub fn first_meeting(a: Columns, b: Columns) -> u8
@@ -64,7 +64,7 @@ pub fn revise_row(
     requires w_bound { w < 64 }
     ensures { RowWalked rows.now struck p w killers.old killers.new found result }
 {
-    let row = masks::columns::row_slots(rows, p, w);
+    let row = row_slots(rows, p, w);
     let first = first_meeting(row, struck);
     let now = killer_now(killers[64 * p + w], first);
     killers[64 * p + w] = now;
@@ -83,19 +83,14 @@ pub fn revise_rows(
     requires m_bound { m ≤ 64 }
     ensures { Walked rows.now struck p m killers.old killers.new result }
 {
-    let mut found = Columns {
-        c0: 0,
-        c1: 0,
-        c2: 0,
-        c3: 0,
-    };
+    let mut found = Columns::NONE;
     for w in 0..m {
         found = revise_row(rows, killers, struck, found, p, w);
     }
     found
 }
 
-// The same for a rule of n columns.
+// The same for a rule of n columns. A closure for the walk would not do here: of the killers that it borrows nothing is known after it.
 pub fn revise_columns(
     rows: &[u8; ROWS],
     killers: &mut [u8; KILLERS],
@@ -111,14 +106,12 @@ pub fn revise_columns(
     ensures { WalkedColumns rows.now struck p n m killers.old killers.new result }
 {
     if n < 3 {
-        let two = masks::columns::first_two(struck);
-        let found = revise_rows(rows, killers, two, p, m);
-        return masks::columns::first_two(found);
+        let found = revise_rows(rows, killers, first_columns::<2>(struck), p, m);
+        return first_columns::<2>(found);
     }
     if n < 4 {
-        let three = masks::columns::first_three(struck);
-        let found = revise_rows(rows, killers, three, p, m);
-        return masks::columns::first_three(found);
+        let found = revise_rows(rows, killers, first_columns::<3>(struck), p, m);
+        return first_columns::<3>(found);
     }
     revise_rows(rows, killers, struck, p, m)
 }

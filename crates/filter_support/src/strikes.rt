@@ -6,7 +6,8 @@ ghost use Rattle.filter_support.specs.Strikes.{SlotsStruck, CallWith, AllOpen, L
 
 use crate::known::CallMasks;
 use layout::value::SLOTS;
-use masks::columns::Columns;
+use masks::columns::{column, Columns};
+use masks::slots::set_difference;
 
 // How many slots were struck, and the calls where one was.
 #[derive(Clone, Copy)]
@@ -25,10 +26,10 @@ pub fn strike_slots(slots: &mut [u8; SLOTS], p: u8, c: usize, lost: u32) -> usiz
     let mut left = lost;
     let mut total = 0;
     while left != 0 {
-        let s = u32::trailing_zeros(left) as usize;
+        let s = left.trailing_zeros() as usize;
         slots[32 * c + s] = p;
         total += 1;
-        left = left & (left - 1);
+        left &= left - 1;
     }
     total
 }
@@ -47,7 +48,7 @@ pub fn strike_call(
     ensures slots_struck { SlotsStruck (CallWith (Lacks found) c) p result slots.old slots.new }
     ensures still_known { StillKnown slots.old masks.old slots.new masks.new }
 {
-    let lost = masks::slots::set_difference(masks.opened[c], found);
+    let lost = set_difference(masks.opened[c], found);
     masks.opened[c] &= found;
     masks.struck[c] |= lost;
     strike_slots(slots, p, c, lost)
@@ -59,7 +60,7 @@ pub fn with_call(calls: u32, c: usize, number: usize) -> u32
     ensures { WithCall calls c number result }
 {
     if number > 0 {
-        calls | (1u32 << (c as u32))
+        calls | (1 << c)
     } else {
         calls
     }
@@ -81,10 +82,10 @@ pub fn strike_columns(
     ensures still_known { StillKnown slots.old masks.old slots.new masks.new }
 {
     let mut number = 0;
-    let mut calls: u32 = 0;
+    let mut calls = 0;
     for k in 0..n {
-        let c = (scope[4 * (p as usize) + k] % 32) as usize;
-        let held = masks::columns::column(found, k);
+        let c = (scope[4 * p as usize + k] % 32) as usize;
+        let held = column(found, k);
         let d = strike_call(slots, masks, p, c, held);
         calls = with_call(calls, c, d);
         number += d;

@@ -27,10 +27,6 @@ pub record Inserted (Q : ℕ → ℕ → Type 0) (old new : List ℕ) : Type 0 w
   pub joins : (c s : ℕ) → Q c s → Has (get_or new c 0) s
   pub only : (c s : ℕ) → Has (get_or new c 0) s → Has (get_or old c 0) s ⊎ Q c s
 
--- it is rule q on the call of its column k, where that is one of its n
-abbrev pub ColumnRule : List ℕ → ℕ → ℕ → ℕ → ℕ → ℕ → Type 0
-ColumnRule scope q n k c s = (s ≡ q) × (k < n) × (call_of scope q k ≡ c)
-
 -- it is rule q on the call of one of its n columns
 abbrev pub ScopeRule : List ℕ → ℕ → ℕ → ℕ → ℕ → Type 0
 ScopeRule scope q n c s = (s ≡ q) × OnCalls (λ d. d ≡ c) scope q n

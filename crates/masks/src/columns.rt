@@ -1,7 +1,7 @@
 // A set of slots for each column of a rule. The walks over a rule's rows are written once, for four columns; with the spare columns set to 0, and what is found there
 // thrown away, the compiler makes a loop for two columns and one for three of them.
 ghost use Rattle.std.specs.Prelude.{◌≡◌, ◌+◌, ◌%◌, ◌^◌, ◌<◌};
-ghost use Rattle.masks.specs.Columns.{column_of, word_at, RowMasks, first_two, first_three, ColumnSet, ColumnSets};
+ghost use Rattle.masks.specs.Columns.{column_of, word_at, RowMasks, first_columns, ColumnSet, ColumnSets};
 
 use layout::value::ROWS;
 
@@ -14,44 +14,38 @@ pub struct Columns {
     pub c3: u32,
 }
 
+impl Columns {
+    // No slot for any column.
+    pub const NONE: Columns = Columns {
+        c0: 0,
+        c1: 0,
+        c2: 0,
+        c3: 0,
+    };
+}
+
 // The set of column k.
 pub fn column(x: Columns, k: usize) -> u32
     ensures { result ≡ column_of x k }
 {
-    if k == 0 {
-        return x.c0;
+    match k {
+        0 => x.c0,
+        1 => x.c1,
+        2 => x.c2,
+        _ => x.c3,
     }
-    if k == 1 {
-        return x.c1;
-    }
-    if k == 2 {
-        return x.c2;
-    }
-    x.c3
 }
 
-// The first two columns alone.
-pub fn first_two(x: Columns) -> Columns
-    ensures { result ≡ first_two x }
+// The first N columns alone, two at least.
+pub fn first_columns<const N: usize>(x: Columns) -> Columns
+    ensures { result ≡ first_columns N x }
 {
-    let c0 = x.c0;
-    let c1 = x.c1;
     Columns {
-        c0,
-        c1,
-        c2: 0,
-        c3: 0,
+        c0: x.c0,
+        c1: x.c1,
+        c2: if N > 2 { x.c2 } else { 0 },
+        c3: if N > 3 { x.c3 } else { 0 },
     }
-}
-
-// The first three columns alone.
-pub fn first_three(x: Columns) -> Columns
-    ensures { result ≡ first_three x }
-{
-    let c0 = x.c0;
-    let c1 = x.c1;
-    let c2 = x.c2;
-    Columns { c0, c1, c2, c3: 0 }
 }
 
 // A byte as a wider number.
@@ -66,17 +60,14 @@ pub fn word(rows: &[u8; ROWS], i: usize) -> u32
     requires { i + 3 < ROWS }
     ensures { result ≡ word_at rows.now i }
 {
-    u32::from(rows[i])
-        + 256 * u32::from(rows[i + 1])
-        + 65536 * u32::from(rows[i + 2])
-        + 16777216 * u32::from(rows[i + 3])
+    u32::from_le_bytes([rows[i], rows[i + 1], rows[i + 2], rows[i + 3]])
 }
 
 // The mask of the slot in the lowest byte of a number.
 pub fn slot_bit(x: u32) -> u32
     ensures { result ≡ 2 ^ (x % 32) }
 {
-    1u32 << (x % 32)
+    1 << (x % 32)
 }
 
 // The slots of row w of rule p, a mask of one for each column.

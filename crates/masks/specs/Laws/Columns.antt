@@ -1,9 +1,10 @@
 -- What holds of each column; a row's word; and a rule of fewer columns. Assumes nothing.
-use Rattle.std.specs.Prelude.{◌≡◌, refl, List, ℕ, zero, suc, ◌+◌, ◌/◌, ◌%◌, ◌<◌, get_or}
-use Rattle.std.proofs.Common.{sym, ap, ap₂, add-zero, arith}
+use Rattle.std.specs.Prelude.{◌≡◌, refl, cond, ltb, List, ◌≤◌, ℕ, zero, suc, ◌+◌, ◌/◌, ◌%◌, ◌<◌, get_or}
+use Rattle.std.proofs.Common.{sym, ap, ap₂, ⊎_elim, lt-ltb, le-ltb, add-zero, arith}
+use Rattle.tables.specs.Laws.Facts.{lt_or_le}
 use Rattle.tables.specs.Laws.Masks.{bit_zero}
 use Rattle.masks.specs.declared.columns.Columns.{Columns}
-use Rattle.masks.specs.Columns.{column_of, InColumn, no_columns, first_two, first_three, PastEmpty, word_at, ColumnSets}
+use Rattle.masks.specs.Columns.{column_of, InColumn, no_columns, first_columns, PastEmpty, word_at, ColumnSets}
 
 -- WHAT HOLDS OF EACH of the four columns
 pub four : (P : ℕ → Type 0) → P 0 → P 1 → P 2 → P 3 → (k : ℕ) → k < 4 → P k
@@ -12,18 +13,6 @@ four P a b c d (suc zero) l = b
 four P a b c d (suc (suc zero)) l = c
 four P a b c d (suc (suc (suc zero))) l = d
 four P a b c d (suc (suc (suc (suc k)))) l = absurd (omega arith)
-
--- and of the first two and three
-pub two : (P : ℕ → Type 0) → P 0 → P 1 → (k : ℕ) → k < 2 → P k
-two P a b zero l = a
-two P a b (suc zero) l = b
-two P a b (suc (suc k)) l = absurd (omega arith)
-
-pub three : (P : ℕ → Type 0) → P 0 → P 1 → P 2 → (k : ℕ) → k < 3 → P k
-three P a b c zero l = a
-three P a b c (suc zero) l = b
-three P a b c (suc (suc zero)) l = c
-three P a b c (suc (suc (suc k))) l = absurd (omega arith)
 
 -- past the first three there is one column
 pub column_last : (x : Columns) (k : ℕ) → (k ≡ 0 → ⊥) → (k ≡ 1 → ⊥) → (k ≡ 2 → ⊥) → column_of x k ≡ x.c3
@@ -56,11 +45,20 @@ word_bytes rows i x bytes e =
     record { first = omega arith; second = omega arith; third = omega arith; fourth = omega arith }
 
 -- A RULE OF FEWER COLUMNS: without the others the sets are the same
-pub two_same : (n : ℕ) (x : Columns) → n < 3 → PastEmpty n x → first_two x ≡ x
-two_same n x l past = ap₂ (λ (a b : ℕ). record { c0 = x.c0; c1 = x.c1; c2 = a; c3 = b }) (sym (past 2 (omega arith) (omega arith))) (sym (past 3 (omega arith) (omega arith)))
+module _ (m : ℕ) (two : 1 < m) (x : Columns) where
+  pub first_same : (n : ℕ) → n ≤ m → PastEmpty n x → first_columns m x ≡ x
+  first_same n few past = ap₂ (λ (a b : ℕ). record { c0 = x.c0; c1 = x.c1; c2 = a; c3 = b }) third fourth
+    where
+      third : cond (ltb 2 m) x.c2 0 ≡ x.c2
+      third = ⊎_elim (λ l. rw (lt-ltb 2 m l) refl) (λ g. rw (le-ltb 2 m g) (sym (past 2 (omega arith) (omega arith)))) (lt_or_le 2 m)
 
-pub three_same : (n : ℕ) (x : Columns) → n < 4 → PastEmpty n x → first_three x ≡ x
-three_same n x l past = ap (λ (b : ℕ). record { c0 = x.c0; c1 = x.c1; c2 = x.c2; c3 = b }) (sym (past 3 (omega arith) (omega arith)))
+      fourth : cond (ltb 3 m) x.c3 0 ≡ x.c3
+      fourth = ⊎_elim (λ l. rw (lt-ltb 3 m l) refl) (λ g. rw (le-ltb 3 m g) (sym (past 3 (omega arith) (omega arith)))) (lt_or_le 3 m)
+
+  -- and they are as they were
+  pub first_in : (k : ℕ) → k < m → k < 4 → column_of (first_columns m x) k ≡ column_of x k
+  first_in k l few =
+      four (λ j. j < m → column_of (first_columns m x) j ≡ column_of x j) (λ h. refl) (λ h. refl) (λ h. rw (lt-ltb 2 m h) refl) (λ h. rw (lt-ltb 3 m h) refl) k few l
 
 pub sets_past : {sets scope : List ℕ} {p n : ℕ} {x : Columns} → ColumnSets sets scope p n x → PastEmpty n x
 sets_past known k le lt = (known.each k lt).past le

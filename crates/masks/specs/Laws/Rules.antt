@@ -1,6 +1,6 @@
 -- The rules on each call, rule by rule; the rules on the calls of a mask; and the pending rules. Assumes nothing.
 use Rattle.std.specs.Prelude.{◌≡◌, refl, List, ◌⊎◌, Some, Bool, true, false, ℕ, ◌+◌, ◌-◌, ◌*◌, ◌/◌, ◌^◌, ◌≤◌, ◌<◌, length, get_or, set, replicate}
-use Rattle.std.proofs.Common.{sym, ap, ◌∙◌, inl, inr, ⊎_elim, arith, ne_eqb, length-set, get_or-set_same, get_or-set_other}
+use Rattle.std.proofs.Common.{sym, ap, ◌∙◌, inl, inr, ⊎_elim, arith, eq-or-lt_of_le, ne_eqb, length-set, get_or-set_same, get_or-set_other}
 use Rattle.std.specs.Int.Bits.{bit_and, bit_or}
 use Rattle.std.specs.Int.Count.{count_trailing_zeros}
 use Rattle.std.proofs.lemmas.List.{length-replicate, get_or-replicate}
@@ -32,8 +32,7 @@ use Rattle.tables.specs.Laws.Masks.{
 }
 use Rattle.tables.specs.Laws.Sweep.{one_set, swept_more}
 use Rattle.layout.specs.Places.{call_of, columns_of}
-use Rattle.masks.specs.Laws.Columns.{four}
-use Rattle.masks.specs.Rules.{OnCalls, OnCall, RulesTo, Inserted, ColumnRule, ScopeRule, RuleDropped, OnAny, RulesOnAny, Without, Enqueues, NextRule}
+use Rattle.masks.specs.Rules.{OnCalls, OnCall, RulesTo, Inserted, ScopeRule, RuleDropped, OnAny, RulesOnAny, Without, Enqueues, NextRule}
 
 -- RULES JOIN CALLS. Where none does, nothing changes
 pub inserted_none : (Q : ℕ → ℕ → Type 0) (l : List ℕ) → ((c s : ℕ) → Q c s → ⊥) → Inserted Q l l
@@ -68,50 +67,37 @@ module _ (Q : ℕ → ℕ → Type 0) (l : List ℕ) (d q : ℕ) (here : d < len
           (λ ne. inl (rw (get_or-set_other l d c v 0 ne) at h))
           (eq_or_ne c d)
 
--- one set after another is both
-pub inserted_both : {P Q : ℕ → ℕ → Type 0} {a b e : List ℕ} → Inserted P a b → Inserted Q b e → Inserted (λ c s. P c s ⊎ Q c s) a e
-inserted_both x y =
-    record {
-      size = y.size ∙ x.size;
-      stays = λ c s h. y.stays c s (x.stays c s h);
-      joins = λ c s z. ⊎_elim (λ p. y.stays c s (x.joins c s p)) (λ q. y.joins c s q) z;
-      only = λ c s h. ⊎_elim (λ g. ⊎_elim (λ o. inl o) (λ p. inr (inl p)) (x.only c s g)) (λ q. inr (inr q)) (y.only c s h);
-    }
+-- A RULE JOINS THE CALLS OF ITS COLUMNS, before the first column
+pub inserted_bare : (scope : List ℕ) (q : ℕ) (l : List ℕ) → Inserted (ScopeRule scope q 0) l l
+inserted_bare scope q l = inserted_none (ScopeRule scope q 0) l (λ c s t. let lt = t.1.1 in absurd (omega arith))
 
--- the set may be put in other words
-pub inserted_same : (P Q : ℕ → ℕ → Type 0) {a b : List ℕ} → ((c s : ℕ) → Q c s → P c s) → ((c s : ℕ) → P c s → Q c s) → Inserted P a b → Inserted Q a b
-inserted_same P Q back forth x =
-    record {
-      size = x.size;
-      stays = x.stays;
-      joins = λ c s q. x.joins c s (back c s q);
-      only = λ c s h. ⊎_elim (λ o. inl o) (λ p. inr (forth c s p)) (x.only c s h);
-    }
-
--- the four columns of a rule, of which n are looked at
-pub inserted_four : (scope : List ℕ) (q n : ℕ) {a b d e f : List ℕ} → n ≤ 4
-    → Inserted (ColumnRule scope q n 0) a b → Inserted (ColumnRule scope q n 1) b d → Inserted (ColumnRule scope q n 2) d e → Inserted (ColumnRule scope q n 3) e f
-    → Inserted (ScopeRule scope q n) a f
-inserted_four scope q n le w x y z = inserted_same Each (ScopeRule scope q n) back forth (inserted_both (inserted_both (inserted_both w x) y) z)
+-- one column more
+pub inserted_more : (scope : List ℕ) (q k : ℕ) {a b : List ℕ} → Inserted (ScopeRule scope q k) a b → call_of scope q k < length b
+    → Inserted (ScopeRule scope q (k + 1)) a (set b (call_of scope q k) (bit_or (get_or b (call_of scope q k) 0) (2 ^ q)))
+inserted_more scope q k {a} {b} x l = record { size = y.size ∙ x.size; stays = λ c s h. y.stays c s (x.stays c s h); joins = joins; only = only }
   where
-    Each : ℕ → ℕ → Type 0
-    Each c s = ((ColumnRule scope q n 0 c s ⊎ ColumnRule scope q n 1 c s) ⊎ ColumnRule scope q n 2 c s) ⊎ ColumnRule scope q n 3 c s
+    One : ℕ → ℕ → Type 0
+    One c s = (c ≡ call_of scope q k) × (s ≡ q)
 
-    back : (c s : ℕ) → ScopeRule scope q n c s → Each c s
-    back c s t =
+    y : Inserted One b (set b (call_of scope q k) (bit_or (get_or b (call_of scope q k) 0) (2 ^ q)))
+    y = inserted_one One b (call_of scope q k) q l (refl, refl) (λ c s o. o)
+
+    joins : (c s : ℕ) → ScopeRule scope q (k + 1) c s → Has (get_or (set b (call_of scope q k) (bit_or (get_or b (call_of scope q k) 0) (2 ^ q))) c 0) s
+    joins c s t =
         let o = t.1 in
         let lt = o.1 in
-        four (λ k. ColumnRule scope q n k c s → Each c s) (λ v. inl (inl (inl v))) (λ v. inl (inl (inr v))) (λ v. inl (inr v)) (λ v. inr v) o.0 (omega arith) (t.0, lt, o.2)
+        let le : o.0 ≤ k = omega arith in
+        ⊎_elim
+        (λ (e : o.0 ≡ k). y.joins c s (sym (rw e at o.2), t.0))
+        (λ less. y.stays c s (x.joins c s (t.0, (o.0, less, o.2))))
+        (eq-or-lt_of_le le)
 
-    one : (c s k : ℕ) → ColumnRule scope q n k c s → ScopeRule scope q n c s
-    one c s k v = (v.0, (k, v.1, v.2))
-
-    forth : (c s : ℕ) → Each c s → ScopeRule scope q n c s
-    forth c s t = ⊎_elim (λ u. ⊎_elim (λ v. ⊎_elim (one c s 0) (one c s 1) v) (one c s 2) u) (one c s 3) t
-
--- a rule of no columns joins no call
-pub inserted_bare : (scope : List ℕ) (q n : ℕ) (l : List ℕ) → n ≡ 0 → Inserted (ScopeRule scope q n) l l
-inserted_bare scope q n l z = inserted_none (ScopeRule scope q n) l (λ c s t. let lt = t.1.1 in omega arith)
+    only : (c s : ℕ) → Has (get_or (set b (call_of scope q k) (bit_or (get_or b (call_of scope q k) 0) (2 ^ q))) c 0) s → Has (get_or a c 0) s ⊎ ScopeRule scope q (k + 1) c s
+    only c s h =
+        ⊎_elim
+        (λ g. ⊎_elim (λ z. inl z) (λ t. let lt = t.1.1 in inr (t.0, (t.1.0, omega arith, t.1.2))) (x.only c s g))
+        (λ o. inr (o.1, (k, omega arith, sym o.0)))
+        (y.only c s h)
 
 -- THE RULES ON EACH CALL, before the first rule
 pub rules_none : (arity scope : List ℕ) → RulesTo arity scope 0 (replicate 32 0)

@@ -1,5 +1,5 @@
 -- The call of one column more is known after each turn.
-use Prim.Native.Nat.{◌≤◌}
+use Rattle.std.specs.Prelude.{◌≤◌}
 use Rattle.filter_support.specs.Known.{ColumnCall, Learnt}
 use Rattle.filter_support.proofs.known.know_columns.Given as goal
 

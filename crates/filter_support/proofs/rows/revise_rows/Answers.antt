@@ -1,5 +1,5 @@
 -- One row more is treated in each turn.
-use native.Mathlib.Omega.{arith}
+use Rattle.std.proofs.Common.{arith}
 use Rattle.filter_support.specs.Laws.Walk.{walked_none, walked_more}
 use Rattle.filter_support.proofs.rows.revise_rows.Goals as goal
 

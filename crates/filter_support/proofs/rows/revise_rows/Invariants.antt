@@ -1,5 +1,5 @@
 -- One row more is treated in each turn.
-use Prim.Native.Nat.{◌≤◌}
+use Rattle.std.specs.Prelude.{◌≤◌}
 use Rattle.filter_support.specs.Walk.{Walked}
 use Rattle.filter_support.proofs.rows.revise_rows.Given as goal
 

@@ -1,5 +1,5 @@
 -- One column more is treated in each turn, and its call joins the mask exactly where a slot of it was struck. Each turn keeps what is known.
-use native.Mathlib.Omega.{arith}
+use Rattle.std.proofs.Common.{arith}
 use Rattle.filter_support.specs.Laws.Strikes.{strikes_fit, columns_none, columns_more}
 use Rattle.filter_support.specs.Laws.Known.{still_none, still_more}
 use Rattle.filter_support.proofs.strikes.strike_columns.Goals as goal

@@ -1,5 +1,5 @@
 -- One column more is treated in each turn, and its call joins the mask exactly where a slot of it was struck. Each turn keeps what is known.
-use Prim.Native.Nat.{◌≤◌}
+use Rattle.std.specs.Prelude.{◌≤◌}
 use Rattle.filter_support.specs.Strikes.{NotIn, ColumnsStruck}
 use Rattle.filter_support.specs.Known.{StillKnown}
 use Rattle.filter_support.proofs.strikes.strike_columns.Given as goal

@@ -1,5 +1,5 @@
 -- Each entry loses the rule in its round.
-use native.Mathlib.Omega.{arith}
+use Rattle.std.proofs.Common.{arith}
 use Rattle.tables.specs.Laws.Sweep.{swept_at}
 use Rattle.masks.specs.Laws.Rules.{dropped}
 use Rattle.masks.proofs.rules.drop_rule.Goals as goal

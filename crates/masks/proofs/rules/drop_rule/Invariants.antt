@@ -1,5 +1,5 @@
 -- Each entry loses the rule in its round.
-use Prim.Native.Nat.{◌≤◌}
+use Rattle.std.specs.Prelude.{◌≤◌}
 use Rattle.tables.specs.Sweep.{Swept}
 use Rattle.masks.specs.Laws.Rules.{Leaves}
 use Rattle.masks.proofs.rules.drop_rule.Given as goal

@@ -1,5 +1,5 @@
 -- One rule more is on its calls with each round.
-use native.Mathlib.Omega.{arith}
+use Rattle.std.proofs.Common.{arith}
 use Rattle.masks.specs.Laws.Rules.{rules_none}
 use Rattle.masks.proofs.rules.rules_on_calls.Goals as goal
 

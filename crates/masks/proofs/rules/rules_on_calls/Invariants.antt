@@ -1,5 +1,5 @@
 -- One rule more is on its calls with each round.
-use Prim.Native.Nat.{◌≤◌}
+use Rattle.std.specs.Prelude.{◌≤◌}
 use Rattle.masks.specs.Rules.{RulesTo}
 use Rattle.masks.proofs.rules.rules_on_calls.Given as goal
 
