@@ -9,7 +9,9 @@ ghost use Rattle.std.specs.Prelude.{◌≡◌, ◌<◌};
 ghost use Rattle.filter_propagate.specs.Rules.{rules_in};
 ghost use Rattle.filter_post.specs.Post.{PostDone};
 
+use filter_propagate::propagate_from;
 use layout::value::{Heads, KILLERS, ROWS, RuleData, SLOTS};
+use write::write_rule;
 
 // Writes the rule under number p and propagates from it. The number of slots struck.
 pub fn post(
@@ -28,6 +30,6 @@ pub fn post(
         killers.new slots.old slots.new }
     ensures counts { heads.new.counts ≡ heads.old.counts }
 {
-    write::write_rule(rows, heads, p, rule);
-    filter_propagate::propagate_from(rows, killers, slots, &heads.arity, &heads.scope, &heads.lengths, p)
+    write_rule(rows, heads, p, rule);
+    propagate_from(rows, killers, slots, heads, p)
 }

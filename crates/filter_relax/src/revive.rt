@@ -9,7 +9,7 @@ ghost use Rattle.filter_relax.specs.Revive.{MaskRevived, RuleFreed, RuleRevived,
 use crate::scan::killer_bit;
 use layout::places::cap;
 use layout::value::{Heads, KILLERS, ROWS};
-use masks::columns::{Columns, column_sets, first_three, first_two, row_slots};
+use masks::columns::{Columns, column_sets, first_columns, row_slots};
 
 // The killer, or none where its slot is visited.
 pub fn killer_left(killer: u8, hit: u32) -> u8
@@ -63,13 +63,11 @@ pub fn revive_columns(
     ensures { Swept 0 (MaskRevived rows.now sets q) (64 * q) m killers.old killers.new }
 {
     if n < 3 {
-        let two = first_two(sets);
-        revive_rows(rows, killers, two, q, m);
+        revive_rows(rows, killers, first_columns::<2>(sets), q, m);
         return;
     }
     if n < 4 {
-        let three = first_three(sets);
-        revive_rows(rows, killers, three, q, m);
+        revive_rows(rows, killers, first_columns::<3>(sets), q, m);
         return;
     }
     revive_rows(rows, killers, sets, q, m)

@@ -12,7 +12,7 @@ ghost use Rattle.filter_relax.specs.Scan.{KillerBits, WithHit, RowScanned, Scann
 use crate::visit::visit_call;
 use layout::places::cap;
 use layout::value::{Heads, KILLERS, ROWS, SLOTS};
-use masks::columns::{Columns, column, column_sets, first_three, first_two, row_slots};
+use masks::columns::{Columns, column, column_sets, first_columns, row_slots};
 use masks::slots::{set_difference, slots_with};
 
 // The set, where the test holds; else the empty one.
@@ -74,12 +74,7 @@ pub fn scan_rows(
     requires m_bound { m ≤ 64 }
     ensures { Scanned rows.now killers.now sets q m result }
 {
-    let mut found = Columns {
-        c0: 0,
-        c1: 0,
-        c2: 0,
-        c3: 0,
-    };
+    let mut found = Columns::NONE;
     for w in 0..m {
         found = scan_row(rows, killers, sets, found, q, w);
     }
@@ -102,14 +97,12 @@ pub fn scan_columns(
     ensures { ScannedColumns rows.now killers.now sets q n m result }
 {
     if n < 3 {
-        let two = first_two(sets);
-        let found = scan_rows(rows, killers, two, q, m);
-        return first_two(found);
+        let found = scan_rows(rows, killers, first_columns::<2>(sets), q, m);
+        return first_columns::<2>(found);
     }
     if n < 4 {
-        let three = first_three(sets);
-        let found = scan_rows(rows, killers, three, q, m);
-        return first_three(found);
+        let found = scan_rows(rows, killers, first_columns::<3>(sets), q, m);
+        return first_columns::<3>(found);
     }
     scan_rows(rows, killers, sets, q, m)
 }

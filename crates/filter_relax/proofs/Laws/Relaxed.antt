@@ -10,7 +10,6 @@ use Rattle.filter_propagate.specs.Rules.{RuleBytes}
 use Rattle.filter_propagate.specs.Queue.{IsFlagged}
 use Rattle.filter_propagate.specs.Stable.{StableBytes}
 use Rattle.filter_propagate.specs.Laws.Stable.{stable_keep}
-use Rattle.layout.specs.Bounds.{Sizes}
 use Rattle.layout.specs.Places.{columns_of, slot_of, row_cell, call_of}
 use Rattle.filter_relax.specs.Reach.{seed, joins}
 use Rattle.filter_relax.specs.Touched.{Touched, CallsVisited}
@@ -100,8 +99,3 @@ module _ {R : RuleBytes} {t : ℕ} {killers revived slots reopened : List ℕ} {
         stable_keep R q killers revived slots reopened
         (λ k s lk ls. x.slot_kept (32 * call_of R.scope q k + s) (λ o. true_false (x.enqueued q lq (k, lk, (s, ls, o))) off))
         (λ w lw. x.row_kept q w lq (omega arith) (λ f. true_false (x.enqueued q lq (freed_on R visited q w _ f)) off))
-
--- a relaxation leaves the buffers' lengths as they were
-pub relaxed_sizes : {t : ℕ} {R : RuleBytes} {Seed : ℕ → Type 0} {killers revived slots opened : List ℕ} {visited pending : List Bool}
-    → Relaxed R Seed t killers revived slots opened visited pending → Sizes R.rows killers slots → Sizes R.rows revived opened
-relaxed_sizes x s = record { rows_size = s.rows_size; killers_size = x.killers_size ∙ s.killers_size; slots_size = x.slots_size ∙ s.slots_size }
