@@ -10,10 +10,15 @@ use Rattle.model.specs.Marks.{RepresentsMarked}
 use Rattle.model.specs.Sheet.{file_refusal, read_line}
 use Rattle.command_obey.specs.Obeys.{Obeys}
 use Rattle.sheet_lines.specs.Append.{Appended}
+use Rattle.sheet.specs.declared.advance.Board.{Board}
 use Rattle.sheet.specs.declared.advance.Progress.{Progress}
 use Rattle.sheet.specs.Line.{answer_line, LineAppended}
-use Rattle.layout.specs.Memory.{MarkedState}
+use Rattle.layout.specs.Memory.{MarkedState, marked_memory}
 use Rattle.sheet_lines.specs.Lengths.{line_most}
+
+-- the state on the board that the commands are obeyed on
+abbrev pub state_on : Board → MarkedState
+state_on b = marked_memory b.value b.names b.rows b.killers b.slots b.marks
 
 -- the ledger after what was read
 unfoldable pub ledger_next : Ledger → Decoded → Ledger

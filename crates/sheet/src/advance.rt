@@ -2,8 +2,7 @@
 ghost use Rattle.std.specs.Prelude.{length};
 ghost use Rattle.model.specs.Commands.{read_at};
 ghost use Rattle.sheet_lines.specs.Append.{Room};
-ghost use Rattle.sheet.specs.Advance.{Held, CommandAdvanced, Advanced};
-ghost use Rattle.layout.specs.Memory.{marked_memory};
+ghost use Rattle.sheet.specs.Advance.{state_on, Held, CommandAdvanced, Advanced};
 ghost use Rattle.sheet_lines.specs.Lengths.{line_most};
 
 use crate::line::{answer_line, refusal_line};
@@ -12,11 +11,20 @@ use layout::names::NAMES;
 use layout::value::{KILLERS, ROWS, SLOTS, Value};
 use model::command::{Command, Decoded, Read};
 
+// The board that the commands are obeyed on: its value and its bytes, and those of its marks.
+#[derive(Drop)]
+pub struct Board {
+    pub value: Value,
+    pub names: [u8; NAMES],
+    pub rows: [u8; ROWS],
+    pub killers: [u8; KILLERS],
+    pub slots: [u8; SLOTS],
+    pub marks: [u8; MARKS],
+}
+
 // How far the sheet has come.
 #[derive(Clone, Copy)]
 pub struct Progress {
-    // the value beside the board's buffers
-    pub value: Value,
     // so many bytes of the input are read
     pub read: usize,
     // so many bytes of the sheet are written
@@ -25,75 +33,55 @@ pub struct Progress {
 
 // A command that was read is obeyed, and its line is written.
 fn advance_command(
+    board: &mut Board,
     progress: Progress,
     command: Command,
     decoded: Decoded,
-    names: &mut [u8; NAMES],
     out: &mut [u8],
-    rows: &mut [u8; ROWS],
-    killers: &mut [u8; KILLERS],
-    slots: &mut [u8; SLOTS],
-    marks: &mut [u8; MARKS],
 ) -> Progress
-    requires held { Held (marked_memory progress.value names.old rows.old killers.old slots.old marks.old) }
+    requires held { Held (state_on board.old) }
     requires room { Room progress.written line_most out.old }
     ensures { CommandAdvanced
-        command decoded progress
-        (marked_memory progress.value names.old rows.old killers.old slots.old marks.old) out.old result
-        (marked_memory result.value names.new rows.new killers.new slots.new marks.new) out.new }
+        command decoded progress (state_on board.old) out.old result (state_on board.new) out.new }
 {
     let outcome = command_obey::obey(
-        progress.value,
-        names,
+        board.value,
+        &mut board.names,
         command,
         decoded.counts,
-        rows,
-        killers,
-        slots,
-        marks,
+        &mut board.rows,
+        &mut board.killers,
+        &mut board.slots,
+        &mut board.marks,
     );
     let written = answer_line(out, progress.written, command, outcome.answer);
+    board.value = outcome.value;
     Progress {
-        value: outcome.value,
         read: decoded.next,
         written,
     }
 }
 
 // A refusal 3 or 4 counts the rest of the input as read: nothing after it is looked at.
-pub fn advance(
-    progress: Progress,
-    names: &mut [u8; NAMES],
-    input: &[u8],
-    out: &mut [u8],
-    rows: &mut [u8; ROWS],
-    killers: &mut [u8; KILLERS],
-    slots: &mut [u8; SLOTS],
-    marks: &mut [u8; MARKS],
-) -> Progress
-    requires held { Held (marked_memory progress.value names.old rows.old killers.old slots.old marks.old) }
+pub fn advance(board: &mut Board, progress: Progress, input: &[u8], out: &mut [u8]) -> Progress
+    requires held { Held (state_on board.old) }
     requires room { Room progress.written line_most out.old }
     ensures { Advanced
-        (read_at input.now progress.read) (length input.now) progress
-        (marked_memory progress.value names.old rows.old killers.old slots.old marks.old) out.old result
-        (marked_memory result.value names.new rows.new killers.new slots.new marks.new) out.new }
+        (read_at input.now progress.read) (length input.now) progress (state_on board.old) out.old result (state_on board.new) out.new }
 {
     let decoded = command_decode::decode(input, progress.read);
     match decoded.read {
-        Read::Command(command) => advance_command(
-            progress, command, decoded, names, out, rows, killers, slots, marks,
-        ),
+        Read::Command(command) => advance_command(board, progress, command, decoded, out),
         Read::Refused(kind, number) => {
             let written = refusal_line(out, progress.written, kind, number);
             Progress {
                 read: input.len(),
                 written,
-                ..progress
             }
         }
         Read::End => Progress {
             read: input.len(),
-            ..progress
+            written: progress.written,
         },
     }
 }

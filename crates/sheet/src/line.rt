@@ -9,7 +9,7 @@ ghost use Rattle.sheet_lines.specs.Lengths.{line_most};
 use model::answer::Answer;
 use model::command::Command;
 
-// The number of a kind.
+// The number of the command's kind.
 fn kind_of(command: Command) -> u8
     ensures { result ≡ kind_of command }
 {

@@ -1,7 +1,6 @@
 -- THE WHOLE SHEET from its parts: the lines of the input, and the last line behind them. Assumes nothing.
 use Rattle.std.specs.Prelude.{◌≡◌, refl, Bool, true, false, cond, List, [], ◌∷◌, ◌++◌, ℕ, ◌≤◌, ◌<◌, length, take, drop, ltb}
-use Rattle.std.proofs.Common.{sym, ap, ◌∙◌, arith, length-append, take-append-drop, length-take-le}
-use borrow.Author.Tests.{lt-ltb, le-ltb}
+use Rattle.std.proofs.Common.{sym, ap, ◌∙◌, arith, length-append, take-append-drop, length-take-le, lt-ltb, le-ltb}
 use Rattle.model.specs.Promise.{values_at}
 use Rattle.model.specs.Sheet.{refused_line, end_line, sheet_of, input_most}
 use Rattle.sheet_lines.specs.Append.{Appended}

@@ -1,5 +1,5 @@
 -- By what was read: a command has its own round; a refusal gives its own line; at the end nothing is written.
-use mathlib.Core.Path.{refl}
+use Rattle.std.proofs.Common.{refl}
 use Rattle.sheet.specs.Laws.Advance.{advanced_same, advanced_command, advanced_refused, advanced_end}
 use Rattle.sheet.proofs.advance.advance.Goals as goal
 
