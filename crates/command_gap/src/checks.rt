@@ -2,13 +2,11 @@
 ghost use Rattle.std.specs.Prelude.{◌≡◌};
 ghost use Rattle.command_gap.specs.Checks.{field_checks};
 ghost use Rattle.model.specs.Gaps.{bad_form?, bad_gap?};
-ghost use Rattle.model.specs.Refusals.{first_of};
+ghost use Rattle.model.specs.Refusals.{first_of, number_of};
 
 use command_draft::fields;
 use model::command::GapRule;
-use model::refusal::{
-    BAD_FORM, BAD_GAP, BAD_NUMBER, CALL_OFF_BOARD, CALL_TWICE, CANCELLED_CALL, NO_BOARD, or_refuse,
-};
+use model::refusal::Refusal;
 
 // Refusal 23: there is no such form.
 fn bad_form(form: u8) -> bool
@@ -24,18 +22,16 @@ fn bad_gap(form: u8, gap: u8) -> bool
     31 < gap || form == 3 && gap != 0
 }
 
-// The number of the refusal, or 0 for none, in the order of SCOPE 4.3. Every check is made.
-pub fn check_fields(counts: &[u8; 32], slots: &[u8], f: GapRule) -> u8
-    ensures { result ≡ first_of (field_checks counts.now slots.now f) }
+// The first refusal that holds, in the order of SCOPE 4.3.
+pub fn check_fields(counts: &[u8; 32], slots: &[u8], f: GapRule) -> Result<(), Refusal>
+    ensures { number_of result ≡ first_of (field_checks counts.now slots.now f) }
 {
     let calls = [f.first, f.second, 255, 255];
-    let n = or_refuse(0, counts[0] == 0, NO_BOARD);
-    let n = or_refuse(n, 63 < f.number, BAD_NUMBER);
-    let n = or_refuse(n, bad_form(f.form), BAD_FORM);
-    let off = fields::call_off_board(counts, &calls, 2);
-    let n = or_refuse(n, off, CALL_OFF_BOARD);
-    let cancelled = fields::call_cancelled(slots, &calls, 2);
-    let n = or_refuse(n, cancelled, CANCELLED_CALL);
-    let n = or_refuse(n, fields::call_twice(&calls, 2), CALL_TWICE);
-    or_refuse(n, bad_gap(f.form, f.gap), BAD_GAP)
+    Refusal::NoBoard.when(counts[0] == 0)?;
+    Refusal::BadNumber.when(63 < f.number)?;
+    Refusal::BadForm.when(bad_form(f.form))?;
+    Refusal::CallOffBoard.when(fields::call_off_board(counts, &calls, 2))?;
+    Refusal::CancelledCall.when(fields::call_cancelled(slots, &calls, 2))?;
+    Refusal::CallTwice.when(fields::call_twice(&calls, 2))?;
+    Refusal::BadGap.when(bad_gap(f.form, f.gap))
 }

@@ -5,37 +5,28 @@ ghost use Rattle.model.specs.declared.command.Command.TheVariants as kind;
 
 use crate::checks::check_fields;
 use crate::draft::draft_of;
-use command_draft::redraft::{Redrafted, outcome_of};
+use command_draft::redraft::outcome_of;
 use layout::value::{Draft, Value};
 use model::answer::Outcome;
 use model::command::GapRule;
-use model::refusal::TOO_MANY_PAIRS;
+use model::refusal::Refusal;
 
-// The draft of the rule in the place of the one given, which stays where the rule is refused.
-pub fn redraft(counts: &[u8; 32], slots: &[u8], draft: Draft, f: GapRule) -> Redrafted
-    ensures { RedrawsGap counts.now slots.now f draft result }
+// The draft of the rule.
+pub fn redraft(counts: &[u8; 32], slots: &[u8], f: GapRule) -> Result<Draft, Refusal>
+    ensures { RedrawsGap counts.now slots.now f result }
 {
-    let number = check_fields(counts, slots, f);
-    if number != 0 {
-        return Redrafted { number, draft };
-    }
+    check_fields(counts, slots, f)?;
     let made = draft_of(counts, f);
     if 64 < made.count {
-        return Redrafted {
-            number: TOO_MANY_PAIRS,
-            draft,
-        };
+        return Err(Refusal::TooManyPairs);
     }
-    Redrafted {
-        number,
-        draft: made.draft,
-    }
+    Ok(made.draft)
 }
 
 #[inline(never)]
 pub fn draft_gap(value: Value, f: GapRule, slots: &[u8]) -> Outcome
     ensures { DraftPromise value slots.now (kind.Gap f) result }
 {
-    let next = redraft(&value.heads.counts, slots, value.draft, f);
+    let next = redraft(&value.heads.counts, slots, f);
     outcome_of(value, next)
 }
