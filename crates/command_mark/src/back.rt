@@ -76,9 +76,8 @@ pub fn back_board(
         (kind.Back name) (marked_memory value names.now rows.old killers.old slots.old marks.now) result.answer
         (marked_memory result.value names.now rows.new killers.new slots.new marks.now) }
 {
-    let n = check_back(&value.heads.counts, names, name);
-    if n != 0 {
-        return Outcome::refused(n, value);
+    if let Err(refusal) = check_back(&value.heads.counts, names, name) {
+        return Outcome::refused(refusal, value);
     }
     back_unchecked(names, name, rows, killers, slots, marks)
 }

@@ -64,9 +64,8 @@ pub fn keep_board(
         (kind.Keep name) (marked_memory value names.old rows.now killers.now slots.now marks.old) result.answer
         (marked_memory result.value names.new rows.now killers.now slots.now marks.new) }
 {
-    let n = check_keep(&value.heads.counts, name);
-    if n != 0 {
-        return Outcome::refused(n, value);
+    if let Err(refusal) = check_keep(&value.heads.counts, name) {
+        return Outcome::refused(refusal, value);
     }
     keep_unchecked(value, names, name, rows, killers, slots, marks)
 }
