@@ -1,6 +1,6 @@
 -- How the masks of a call become known, and that strikes keep them. Assumes nothing.
-use Rattle.std.specs.Prelude.{◌≡◌, refl, List, ℕ, ◌+◌, ◌*◌, ◌%◌, ◌^◌, ◌≤◌, ◌<◌, length, get_or, set}
-use Rattle.std.proofs.Common.{sym, ◌∙◌, ⊎_elim, arith, eq-or-lt_of_le, get_or-set_same, get_or-set_other}
+use Rattle.std.specs.Prelude.{◌≡◌, refl, List, ℕ, ◌*◌, ◌%◌, ◌^◌, ◌<◌, length, get_or, set}
+use Rattle.std.proofs.Common.{sym, ◌∙◌, ⊎_elim, arith, get_or-set_same, get_or-set_other}
 use Rattle.std.specs.Int.Bits.{bit_and, bit_or}
 use Rattle.tables.specs.Masks.{Has, IsMask}
 use Rattle.tables.specs.Laws.Facts.{eq_or_ne}
@@ -11,7 +11,7 @@ use Rattle.masks.specs.Slots.{SetDifference}
 use Rattle.layout.specs.Places.{call_of, slot_place, cause_of}
 use Rattle.filter_support.specs.Walk.{StruckSets}
 use Rattle.filter_support.specs.Strikes.{SlotsStruck, CallWith, Lacks, AllOpen}
-use Rattle.filter_support.specs.Known.{KnownCall, KnownCalls, Known, ColumnCall, Learnt, StillKnown}
+use Rattle.filter_support.specs.Known.{KnownCall, Known, ColumnCall, Learnt, StillKnown}
 use Rattle.filter_support.specs.declared.known.CallMasks.{CallMasks}
 use Rattle.filter_support.specs.Laws.Strikes.{was_open, strikes_open}
 
@@ -59,8 +59,6 @@ learnt_made slots masks c {a} {b} l la lb x ma mb =
 
 -- THE CALLS OF A RULE'S COLUMNS, one after another
 module _ {scope : List ℕ} {p : ℕ} where
-
-
   -- the sets of the columns' calls are those of their struck slots
   pub struck_sets : {n : ℕ} {slots : List ℕ} {before masks : CallMasks} {x : Columns} → Learnt (ColumnCall scope p n) slots before masks → ColumnSets masks.struck scope p n x
       → StruckSets slots scope p n x

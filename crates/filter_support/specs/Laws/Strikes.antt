@@ -9,8 +9,8 @@ use Rattle.tables.specs.Lost.{OnlyLost}
 use Rattle.tables.specs.Masks.{Has, IsMask}
 use Rattle.layout.specs.Places.{call_of, slot_place, cause_of}
 use Rattle.tables.specs.Laws.Count.{count_le, count_set}
-use Rattle.tables.specs.Laws.Assign.{assign_none, assign_more, assign_same, assign_at, assign_set, assign_keep}
-use Rattle.tables.specs.Laws.Left.{Left, Removed, Of, left_all, left_lowest, left_more, taken_lowest, assign_lowest, assign_taken}
+use Rattle.tables.specs.Laws.Assign.{assign_none, assign_more, assign_same, assign_set, assign_keep}
+use Rattle.tables.specs.Laws.Left.{Left, Removed, Of, left_lowest, left_more, taken_lowest, assign_lowest, assign_taken}
 use Rattle.tables.specs.Laws.Lost.{only_some, only_same}
 use Rattle.tables.specs.Laws.Facts.{eq_or_ne}
 use Rattle.tables.specs.Laws.Masks.{power_same, power_has, shl_one, has_some, has_below, or_left, or_right, or_either}
@@ -89,7 +89,6 @@ pub record Striking (lost p c : ℕ) (old new : List ℕ) (left total : ℕ) : T
   pub lowest_first : Left 32 lost left
   pub struck : SlotsStruck (Of (λ s j. j ≡ slot_place c s) (Removed lost left)) p total old new
 
-
 module _ {lost p c : ℕ} {old new : List ℕ} {left total : ℕ} (all : AllOpen old c lost) (some : left ≡ 0 → ⊥) (x : Striking lost p c old new left total) where
   pub slot_below : count_trailing_zeros 32 left < 32
   slot_below = (left_lowest some x.lowest_first).place
@@ -135,7 +134,6 @@ call_joins {calls} {c} l some =
       joins = λ s. or_right calls (2 ^ c) c (power_same c);
       only = λ d h. ⊎_elim (λ o. inl o) (λ o. inr (power_has c d o, some)) (or_either calls (2 ^ c) d h);
     })
-
 
 -- when the slots of one call more are struck
 module _ (N : ℕ → Type 0) (c p : ℕ) (lp : p < 64) {Q : ℕ → Type 0} {h r : ℕ} (old mid new : List ℕ) (x : SlotsStruck Q p h old mid) (y : SlotsStruck (CallWith N c) p r mid new) where

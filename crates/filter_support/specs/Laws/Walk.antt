@@ -15,8 +15,6 @@ use Rattle.tables.specs.Laws.Masks.{power_same, power_has, apart_clear, clear_ap
 use Rattle.tables.specs.Laws.Sweep.{one_set, swept_none, swept_more}
 use Rattle.masks.specs.Laws.Columns.{none_in, first_same, first_in}
 
-
-
 -- A ROW'S KILLER, from the masks of its slots
 module _ (rows : List ℕ) (row struck : Columns) (p w : ℕ) (masks : RowMasks rows p w row) where
   -- the row's slot of a column is struck where the two sets meet there
@@ -157,7 +155,6 @@ module _ {rows : List ℕ} {struck : Columns} {p n h : ℕ} {killers killed : Li
         has = λ k s lk i. rw (first_in m two x k (omega arith) (omega arith)) (v.has k s (omega arith) i);
         only = λ k s lk i. v.only k s (omega arith) (rw (first_in m two x k (omega arith) (omega arith)) at i);
       }
-
 
 -- A SLOT THAT IS NOT FOUND has no support
 module _ {rows : List ℕ} {struck : Columns} {p m : ℕ} {killers killed : List ℕ} {x : Columns} {n : ℕ} (v : WalkedColumns rows struck p n m killers killed x) where
