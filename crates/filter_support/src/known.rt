@@ -55,7 +55,7 @@ pub fn know_columns(
     ensures { Learnt (ColumnCall scope.now p n) slots.now masks.old masks.new }
 {
     for k in 0..n {
-        let c = (scope[4 * p + k] % 32) as usize;
+        let c = usize::from(scope[4 * p + k] % 32);
         know_call(slots, masks, c);
     }
 }

@@ -5,7 +5,7 @@ ghost use Rattle.masks.specs.Columns.{PastEmpty};
 ghost use Rattle.filter_support.specs.Walk.{FirstMeeting, killer_now, alive_set, WithRow, RowWalked, Walked, WalkedColumns};
 
 use layout::value::{KILLERS, ROWS};
-use masks::columns::{first_columns, row_slots, Columns};
+use masks::columns::{Columns, first_columns, row_slots};
 
 // The first column where the two sets meet, or 255.
 pub fn first_meeting(a: Columns, b: Columns) -> u8

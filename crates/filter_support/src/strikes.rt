@@ -6,7 +6,7 @@ ghost use Rattle.filter_support.specs.Strikes.{SlotsStruck, CallWith, AllOpen, L
 
 use crate::known::CallMasks;
 use layout::value::SLOTS;
-use masks::columns::{column, Columns};
+use masks::columns::{Columns, column};
 use masks::slots::set_difference;
 
 // How many slots were struck, and the calls where one was.
@@ -59,11 +59,7 @@ pub fn with_call(calls: u32, c: usize, number: usize) -> u32
     requires { c < 32 }
     ensures { WithCall calls c number result }
 {
-    if number > 0 {
-        calls | (1 << c)
-    } else {
-        calls
-    }
+    if number > 0 { calls | (1 << c) } else { calls }
 }
 
 // Strikes the open slots on the calls of n columns of rule p that are not found.
@@ -84,7 +80,7 @@ pub fn strike_columns(
     let mut number = 0;
     let mut calls = 0;
     for k in 0..n {
-        let c = (scope[4 * p as usize + k] % 32) as usize;
+        let c = usize::from(scope[4 * usize::from(p) + k] % 32);
         let held = column(found, k);
         let d = strike_call(slots, masks, p, c, held);
         calls = with_call(calls, c, d);

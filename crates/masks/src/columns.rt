@@ -91,7 +91,7 @@ pub fn column_set(sets: &[u32; 32], scope: &[u8; 256], p: usize, n: usize, k: us
     ensures { ColumnSet sets.now scope.now p n k result }
 {
     if k < n {
-        sets[(scope[4 * p + k] % 32) as usize]
+        sets[usize::from(scope[4 * p + k] % 32)]
     } else {
         0
     }

@@ -12,7 +12,7 @@ pub fn add_rule(scope: &[u8; 256], on: &mut [u64; 32], q: usize, n: usize)
     ensures { Inserted (ScopeRule scope.now q n) on.old on.new }
 {
     for k in 0..n {
-        let c = (scope[4 * q + k] % 32) as usize;
+        let c = usize::from(scope[4 * q + k] % 32);
         on[c] |= 1 << q;
     }
 }

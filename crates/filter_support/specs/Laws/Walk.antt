@@ -15,13 +15,6 @@ use Rattle.tables.specs.Laws.Masks.{power_same, power_has, apart_clear, clear_ap
 use Rattle.tables.specs.Laws.Sweep.{one_set, swept_none, swept_more}
 use Rattle.masks.specs.Laws.Columns.{none_in, first_same, first_in}
 
--- THE FIRST MEETING: none before column r, and one there
-pub meeting_at : (x y : Columns) {r : ℕ} → r < 4 → (bit_and (column_of x r) (column_of y r) ≡ 0 → ⊥) → ((k : ℕ) → k < r → bit_and (column_of x k) (column_of y k) ≡ 0) → FirstMeeting x y r
-meeting_at x y l here before = record { none = λ e. absurd (omega arith); some = λ n. (l, here, before) }
-
-pub meeting_none : (x y : Columns) → ((k : ℕ) → k < 4 → bit_and (column_of x k) (column_of y k) ≡ 0) → FirstMeeting x y 255
-meeting_none x y none = record { none = λ e. none; some = λ n. absurd (n refl) }
-
 -- A ROW'S KILLER, from the masks of its slots
 module _ (rows : List ℕ) (row struck : Columns) (p w : ℕ) (masks : RowMasks rows p w row) where
   -- the row's slot of a column is struck where the two sets meet there
@@ -117,9 +110,6 @@ module _ (rows : List ℕ) (struck : Columns) (p : ℕ) where
           (λ t. record { row = w; inside = omega arith; lives = t.0; holds = t.1 })
           (b.only k s l i)
 
-  pub walked_at : {w m : ℕ} {killers killed : List ℕ} {x : Columns} → Walked rows struck p w killers killed x → w ≤ m → m ≤ w → Walked rows struck p m killers killed x
-  walked_at {w} {m} a l g = let e : m ≡ w = omega arith in rw e a
-
 -- WHAT THE MASKS MEAN: a row is killed as its slots' bytes say
 module _ (rows slots scope : List ℕ) (p n : ℕ) (few : n ≤ 4) (struck : Columns) (known : StruckSets slots scope p n struck) where
   in_struck : (w k : ℕ) → k < n → InColumn struck k (slot_of rows p w k) → HoldsStruck rows slots scope p w k
@@ -165,9 +155,6 @@ module _ {rows : List ℕ} {struck : Columns} {p n h : ℕ} {killers killed : Li
         has = λ k s lk i. rw (first_in m two x k (omega arith) (omega arith)) (v.has k s (omega arith) i);
         only = λ k s lk i. v.only k s (omega arith) (rw (first_in m two x k (omega arith) (omega arith)) at i);
       }
-
-  pub walked_all : n ≤ 4 → Walked rows struck p h killers killed x → WalkedColumns rows struck p n h killers killed x
-  walked_all four v = record { kills = v.kills; has = λ k s lk. v.has k s (omega arith); only = λ k s lk. v.only k s (omega arith) }
 
 -- A SLOT THAT IS NOT FOUND has no support
 module _ {rows : List ℕ} {struck : Columns} {p m : ℕ} {killers killed : List ℕ} {x : Columns} {n : ℕ} (v : WalkedColumns rows struck p n m killers killed x) where

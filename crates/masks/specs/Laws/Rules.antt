@@ -9,7 +9,7 @@ use Rattle.std.proofs.Math.Pow.{pow-lt}
 use Rattle.std.proofs.lemmas.Nat.{shr_le}
 use Rattle.tables.specs.Assign.{Any, Flagged, Below}
 use Rattle.tables.specs.Masks.{bit_of, Has, flags_of}
-use Rattle.tables.specs.Sweep.{One, Swept}
+use Rattle.tables.specs.Sweep.{Swept}
 use Rattle.tables.specs.Laws.Facts.{eq_or_ne, lt_or_le}
 use Rattle.tables.specs.Laws.Left.{Left, Removed, left_all, left_lowest, left_more, taken_lowest, taken_only, taken_all}
 use Rattle.tables.specs.Laws.Flags.{flags_length, flag_set, flag_clear, flags_set}
@@ -30,13 +30,8 @@ use Rattle.tables.specs.Laws.Masks.{
   or_either,
   mask_none,
 }
-use Rattle.tables.specs.Laws.Sweep.{one_set, swept_more}
 use Rattle.layout.specs.Places.{call_of, columns_of}
 use Rattle.masks.specs.Rules.{OnCalls, OnCall, RulesTo, Inserted, ScopeRule, RuleDropped, OnAny, RulesOnAny, Without, Enqueues, NextRule}
-
--- RULES JOIN CALLS. Where none does, nothing changes
-pub inserted_none : (Q : ℕ → ℕ → Type 0) (l : List ℕ) → ((c s : ℕ) → Q c s → ⊥) → Inserted Q l l
-inserted_none Q l none = record { size = refl; stays = λ c s h. h; joins = λ c s q. absurd (none c s q); only = λ c s h. inl h }
 
 -- one rule joins one call by its bit
 module _ (Q : ℕ → ℕ → Type 0) (l : List ℕ) (d q : ℕ) (here : d < length l) (sets : Q d q) (alone : (c s : ℕ) → Q c s → (c ≡ d) × (s ≡ q)) where
@@ -66,10 +61,6 @@ module _ (Q : ℕ → ℕ → Type 0) (l : List ℕ) (d q : ℕ) (here : d < len
           ⊎_elim (λ (o : Has (get_or l d 0) s). inl (rw e o)) (λ x. let f = power_has q s x in inr (rw (e, f) sets)) (or_either (get_or l d 0) (2 ^ q) s g))
           (λ ne. inl (rw (get_or-set_other l d c v 0 ne) at h))
           (eq_or_ne c d)
-
--- A RULE JOINS THE CALLS OF ITS COLUMNS, before the first column
-pub inserted_bare : (scope : List ℕ) (q : ℕ) (l : List ℕ) → Inserted (ScopeRule scope q 0) l l
-inserted_bare scope q l = inserted_none (ScopeRule scope q 0) l (λ c s t. let lt = t.1.1 in absurd (omega arith))
 
 -- one column more
 pub inserted_more : (scope : List ℕ) (q k : ℕ) {a b : List ℕ} → Inserted (ScopeRule scope q k) a b → call_of scope q k < length b
@@ -130,10 +121,6 @@ rules_more {arity} {scope} {q} {n} {a} {b} e x y = record { size = y.size ∙ x.
         (omega arith, rw f z))
         (y.only c s h)
 
--- after the last rule, where the loop's test says that n is m
-pub rules_at : {arity scope : List ℕ} {n m : ℕ} {l : List ℕ} → RulesTo arity scope n l → n ≤ m → m ≤ n → RulesTo arity scope m l
-rules_at {n = n} {m = m} x le ge = let e : m ≡ n = omega arith in rw e x
-
 -- A RULE LEAVES a mask of 64 rules
 pub without_power : (m p : ℕ) → p < 64 → Without p m (bit_and m ((2 ^ 64 - 1) - 2 ^ p))
 without_power m p l =
@@ -146,13 +133,6 @@ without_power m p l =
 -- entry by entry, where masks have 64 bits
 abbrev pub Leaves : ℕ → ℕ → ℕ → ℕ → Type 0
 Leaves p c m r = Without p m r × (r < 2 ^ 64)
-
--- one entry more
-pub leaves_more : {p c v : ℕ} {a b : List ℕ} → c < length b → Swept 0 (Leaves p) 0 c a b → Without p (get_or b c 0) v → v < 2 ^ 64 → Swept 0 (Leaves p) 0 (c + 1) a (set b c v)
-leaves_more {p} {c} {v} {a} {b} l x w lv =
-    let e : 0 + c ≡ c = omega arith in
-    let one : One 0 (Leaves p) 0 c b (set b (0 + c) v) = one_set 0 (Leaves p) 0 c b v (omega arith) (rw e (w, lv)) in
-    swept_more 0 (Leaves p) 0 c a b (set b c v) x (rw e at one)
 
 -- after the last entry
 pub dropped : {p : ℕ} {a b : List ℕ} → Swept 0 (Leaves p) 0 32 a b → RuleDropped p a b

@@ -3,11 +3,11 @@ use Rattle.std.proofs.Common.{refl, arith, rules}
 use Rattle.filter_support.specs.Laws.Known.{lost_open, lost_strikes, still_struck}
 use Rattle.filter_support.proofs.strikes.strike_call.Goals as goal
 
-pub strike_slots-requires : goal.strike_slots-requires
-strike_slots-requires c =
+pub strike_slots-requires-clause-all_open : goal.strike_slots-requires-clause-all_open
+strike_slots-requires-clause-all_open c =
     let start = c in
     let lost = c.set_difference-lost in
-    record { p_bound = start.requires.p_bound; c_bound = start.requires.c_bound; all_open = lost_open _ start.args.masks.now _ start.args.found _ (start.requires.known.each _ (omega arith) refl) (omega (arith, lost.type_inv)) lost.ensures }
+    lost_open _ start.args.masks.now _ start.args.found _ (start.requires.known.each _ (omega arith) refl) (omega (arith, lost.type_inv)) lost.ensures
 
 pub returns : goal.returns
 returns c =

@@ -5,4 +5,4 @@ use Rattle.masks.specs.Laws.Rules.{dropped}
 use Rattle.masks.proofs.rules.drop_rule.Goals as goal
 
 pub returns : goal.returns
-returns c = dropped (swept_at _ _ _ c.loop-c.invariant.1 (omega arith) (omega arith))
+returns c = dropped (swept_at _ _ _ c.loop-c.invariant (omega arith) (omega arith))
