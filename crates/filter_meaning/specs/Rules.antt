@@ -1,5 +1,5 @@
 -- The bytes of a board's rules, as propagation reads them, and what they say of a rule in force.
-use Rattle.std.specs.Prelude.{◌≡◌, List, ℕ, ◌<◌, length, get_or}
+use Rattle.std.specs.Prelude.{◌≡◌, ℕ, ◌<◌, length, get_or}
 use Rattle.model.specs.Board.{Rule, Board, call_at, slot_at}
 use Rattle.model.specs.Representation.{rule_at}
 use Rattle.filter_propagate.specs.Rules.{RuleBytes}

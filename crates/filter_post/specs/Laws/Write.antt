@@ -5,7 +5,6 @@ use Rattle.layout.specs.declared.value.RuleData.{RuleData}
 use Rattle.tables.specs.Sweep.{Swept}
 use Rattle.filter_propagate.specs.Rules.{bytes_of}
 use Rattle.tables.specs.Laws.Facts.{lt_or_le}
-use Rattle.tables.specs.Laws.Sweep.{one_set, swept_none, swept_more, swept_at}
 use Rattle.filter_post.specs.Write.{Copied, RuleWritten}
 
 -- where part p of a table is swept, of parts of n entries each, the other parts are as they were

@@ -1,6 +1,6 @@
 -- The closure, the reopening, the pending rules and the reviving are a relaxation. Assumes nothing.
 use Rattle.std.specs.Prelude.{◌≡◌, List, ◌⊎◌, Bool, false, ℕ, ◌+◌, ◌*◌, ◌/◌, ◌<◌, get_or}
-use Rattle.std.proofs.Common.{◌∙◌, inl, inr, arith}
+use Rattle.std.proofs.Common.{inl, inr, arith}
 use Rattle.tables.specs.Masks.{Has, flags_of, all_flags}
 use Rattle.tables.specs.Laws.Facts.{true_false}
 use Rattle.tables.specs.Laws.Flags.{flags_length, flag_set, flag_has}

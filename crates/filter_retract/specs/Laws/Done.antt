@@ -1,6 +1,5 @@
 -- From what the parts of a retraction ensure to what it does to the bytes. Assumes nothing.
 use Rattle.std.specs.Prelude.{◌≡◌, refl, List, ℕ, ◌-◌, ◌<◌, Bool, replicate}
-use Rattle.std.proofs.Common.{◌∙◌}
 use Rattle.tables.specs.Masks.{flags_of, all_flags}
 use Rattle.masks.specs.Rules.{RulesTo, RuleDropped, Without}
 use Rattle.filter_propagate.specs.Rules.{RuleBytes, reached}
