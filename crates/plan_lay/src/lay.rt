@@ -20,7 +20,7 @@ pub enum Ending {
 }
 
 // Where a search stands.
-#[derive(Clone, Copy)]
+#[derive(Drop)]
 pub struct Search {
     // the slots that are laid; 255 for calls that are not
     pub plan: [u8; 32],

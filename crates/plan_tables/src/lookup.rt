@@ -14,8 +14,8 @@ use plan_fit::columns::{column_call, column_mask};
 // A word for each row that there can be.
 pub const WORDS: usize = 4096;
 
-// All that is looked up.
-#[derive(Clone, Copy)]
+// All that is looked up. It is lent and never copied.
+#[derive(Drop)]
 pub struct Tables {
     // the rows as words, 64 to a rule, with 0 in the columns that do not count
     pub words: [u32; WORDS],
