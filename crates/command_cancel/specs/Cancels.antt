@@ -3,7 +3,7 @@ use Rattle.std.specs.Prelude.{◌≡◌, List, ℕ, ◌%◌, min, get_or, Ok}
 use Rattle.model.specs.declared.answer.Report.{Report}
 use Rattle.model.specs.declared.command.Command.TheVariants as kind
 use Rattle.model.specs.Promise.{Answer, KindPromise}
-use Rattle.filter_meaning.specs.Rules.{bytes_in}
+use Rattle.filter_propagate.specs.Rules.{rules_in}
 use Rattle.filter_cancel.specs.Done.{CancelDone}
 use Rattle.layout.specs.Memory.{State}
 
@@ -19,7 +19,7 @@ pub record CallCancelled (call : ℕ) (before : State) (given : Answer) (after :
       CancelDone
       (call % 32)
       (min (get_or before.value.heads.counts (call % 32) 0) 32)
-      (bytes_in before.value.heads before.rows)
+      (rules_in before.rows before.value.heads)
       before.killers
       after.killers
       before.slots
