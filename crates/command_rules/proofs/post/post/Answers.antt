@@ -8,4 +8,4 @@ returns-in-Err c ns = rw c.refused.ensures (post_refused _ ns _ c.in-Err.ensures
 pub returns : goal.returns
 returns c ns =
     rw c.with_draft.ensures
-    (post_accepted _ ns _ _ c.post_unchecked.ensures _ c.empty.ensures c.in_default.ensures)
+    (post_accepted _ ns _ _ c.post_unchecked-answer.ensures _ c.empty.ensures c.in_default.ensures)
