@@ -10,7 +10,6 @@ use Rattle.plan_tables.specs.declared.lookup.Tables.{Tables}
 use Rattle.plan_tables.specs.Lookup.{CallSlots, OpenMasks, RuleColumns, RowWords}
 use Rattle.plan_tables.specs.Due.{DueRules}
 use Rattle.plan_tables.specs.Fit.{stays_by}
-use Rattle.plan_lay.specs.declared.first.Laid.{Laid}
 use Rattle.plan_lay.specs.declared.lay.Ending.{Ending}
 use Rattle.plan_lay.specs.declared.lay.Ending.TheVariants as ending
 
@@ -78,7 +77,3 @@ pub record StepEnded (r : Result) (left rest : ℕ) (back plan : List ℕ) (e : 
   pub remains : Rest e rest
   pub size : length plan ≡ plan_size
   pub undone : Undone e back plan
-
--- what the whole search ended with
-unfoldable pub ended_of : Laid → Ended
-ended_of r = ended_with r.ending r.plan r.trials

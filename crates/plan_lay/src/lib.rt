@@ -8,10 +8,10 @@ mod first; // the search from the tables to the answer
 ghost use Rattle.layout.specs.Memory.{memory};
 ghost use Rattle.plan_search.specs.First.{FirstPromise};
 
-use crate::first::{lay_plan, plan_answer, without_plan};
+use crate::first::lay_plan;
 use layout::value::{KILLERS, ROWS, SLOTS, Value};
-use model::refusal::{BUFFER_LENGTH, NO_BOARD};
-use plan_search::answer::{FirstPlan, PlanAnswer};
+use model::refusal::Refusal;
+use plan_search::answer::FirstPlan;
 
 // The first full plan with the trials of the search; that there is none; or that the search needs more trials than the ceiling. The checks of the question are 1 and 6.
 pub fn first_plan(
@@ -20,7 +20,7 @@ pub fn first_plan(
     killers: &[u8],
     slots: &[u8],
     ceiling: u32,
-) -> PlanAnswer
+) -> Result<FirstPlan, Refusal>
     ensures { FirstPromise (memory value rows.now killers.now slots.now) ceiling result }
 {
     let (Some(rows), Some(_), Some(slots)) = (
@@ -28,10 +28,10 @@ pub fn first_plan(
         killers.as_array::<KILLERS>(),
         slots.as_array::<SLOTS>(),
     ) else {
-        return without_plan(FirstPlan::Refused(BUFFER_LENGTH));
+        return Err(Refusal::BufferLength);
     };
     if value.heads.counts[0] == 0 {
-        return without_plan(FirstPlan::Refused(NO_BOARD));
+        return Err(Refusal::NoBoard);
     }
-    plan_answer(lay_plan(&value.heads, rows, slots, ceiling), ceiling)
+    Ok(lay_plan(&value.heads, rows, slots, ceiling))
 }

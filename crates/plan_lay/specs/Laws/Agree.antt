@@ -1,15 +1,9 @@
 -- THE SEARCH BY THE TABLES IS THE SEARCH OFF THE MEMORY. A rule is looked at once, with its last call: the others that are due were due before, with the same slots.
 -- Assumes nothing.
-use Rattle.std.specs.Prelude.{◌≡◌, true, false, not, ◌||◌, ◌⊎◌, length, set, T}
-use Rattle.std.proofs.Math.Path.{refl, sym}
-use Rattle.std.proofs.Common.{ap, ◌∙◌, arith, eq-or-lt_of_le, length-set, get_or-set_same, get_or-set_other, eqb→eq, T_not, lt-ltb, le-ltb}
-use Rattle.std.proofs.Math.Bool.{Bool}
-use mathlib.Core.List.{List}
-use Rattle.std.proofs.Math.Logic.{inl, inr, ⊎_elim}
-use Prim.Native.Nat.{ℕ, suc, ◌+◌, ◌*◌, ◌<◌, ◌≤◌}
-use Rattle.std.proofs.Math.ListN.{get_or}
+use Rattle.std.specs.Prelude.{◌≡◌, refl, Bool, true, false, not, ◌||◌, List, ◌⊎◌, ℕ, suc, ◌+◌, ◌*◌, ◌<◌, ◌≤◌, length, get_or, set, eqb, T}
+use Rattle.std.proofs.Common.{sym, ap, ◌∙◌, inl, inr, ⊎_elim, arith, eq-or-lt_of_le, length-set, get_or-set_same, get_or-set_other, eqb→eq, T_not, lt-ltb, le-ltb}
+use Rattle.std.proofs.Math.Dec.{not_T}
 use Rattle.std.proofs.lemmas.List.{length-replicate}
-use Rattle.std.proofs.Math.Dec.{eqb, not_T}
 use Rattle.tables.specs.Masks.{bit_of}
 use Rattle.tables.specs.Laws.Facts.{true_false, true_or_false, eq_or_ne, lt_or_le, find_below, any_default}
 use Rattle.layout.specs.Places.{cause_of, rows_of}

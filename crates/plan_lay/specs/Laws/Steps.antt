@@ -1,12 +1,9 @@
 -- THE STEPS OF THE SEARCH, as the code takes them: the next open slot, the calls and slots from one on, and what each step comes to under the ceiling. Assumes nothing.
-use Rattle.std.specs.Prelude.{◌≡◌, refl, true, false, List, ◌≢◌, set, eqb, Some, None}
-use Rattle.std.proofs.Common.{sym, ap, ◌∙◌, set-set}
-use Prim.Native.Nat.{ℕ, zero, suc, ◌+◌, ◌-◌, ◌/◌, ◌%◌, ◌^◌, ◌<◌, ◌≤◌}
-use native.Mathlib.Omega.{arith}
+use Rattle.std.specs.Prelude.{◌≡◌, refl, true, false, List, ◌≢◌, ℕ, zero, suc, ◌+◌, ◌-◌, ◌/◌, ◌%◌, ◌^◌, ◌<◌, ◌≤◌, set, eqb, Some, None}
+use Rattle.std.proofs.Common.{sym, ap, ◌∙◌, arith, set-set, eq-eqb, ne_eqb, le-leb}
 use Rattle.std.proofs.Math.Numerals.{add-one}
 use Rattle.std.proofs.Math.ListN.{length-set}
 use Rattle.std.specs.Int.Count.{count_trailing_zeros, under}
-use borrow.Author.Tests.{eq-eqb, ne_eqb, le-leb}
 use Rattle.tables.specs.Masks.{bit_of}
 use Rattle.model.specs.Board.{no_slot_given}
 use Rattle.tables.specs.Laws.Masks.{bit_zero, bit_above, has_below, lowest}

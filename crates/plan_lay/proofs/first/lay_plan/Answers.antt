@@ -6,7 +6,7 @@ use Rattle.plan_lay.proofs.first.lay_plan.Goals as goal
 
 pub returns : goal.returns
 returns c =
-    laid_plan (rule_parts c.args.heads.now c.args.rows.now c.args.slots.now) c.args.ceiling c.lay_all.result
+    laid_plan (rule_parts c.args.heads.now c.args.rows.now c.args.slots.now) c.args.ceiling
     (record {
       words = c.write_words.ensures;
       lengths = refl;
