@@ -15,8 +15,7 @@ use Rattle.model.specs.declared.refusal.Refusal.TheVariants as refused
 use Rattle.layout.specs.declared.summary.Summary.{Summary}
 use Rattle.layout.specs.declared.summary.Table.{Table}
 use Rattle.layout.specs.Memory.{MarkedState, state_of, marked_of, whole_of, lent_of, lent_with}
-use Rattle.layout.specs.Sizes.{CommandLent, bad_buffers?, bad_table?, records_length}
-use Rattle.summary_counts.specs.Counted.{Counted}
+use Rattle.layout.specs.Sizes.{Lent, CommandLent, bad_buffers?, bad_table?, rows_length, killers_length, slots_length, marks_length, records_length}
 use Rattle.summary_counts.specs.Laws.Counted.{counted_current}
 use Rattle.command_run.specs.declared.Done.{Done}
 use Rattle.command_run.specs.Store.{Stores, RecordsFor, WithRecords}
@@ -28,6 +27,26 @@ pub promise_whole : (s s' : MarkedState) (bytes : List ℕ) (given : Answer) (ol
     → Promise (whole_of s old) bytes given (whole_of s' new)
 promise_whole s s' bytes given old new lent promise kept current =
     record { memory = subst (λ (l : CommandLent). MemoryPromise l s bytes given s') (sym lent) promise; table_kept = kept; current = current }
+
+-- A BUFFER IS NOT OF ITS LENGTH, or all are
+module _ (lent : Lent) (marks : ℕ) where
+  pub bad_rows : lent.rows ≢ rows_length → bad_buffers? lent marks ≡ true
+  bad_rows r = rw (ne_eqb lent.rows rows_length r) refl
+
+  module _ (r : lent.rows ≡ rows_length) where
+    pub bad_killers : lent.killers ≢ killers_length → bad_buffers? lent marks ≡ true
+    bad_killers k = rw (r, ne_eqb lent.killers killers_length k) refl
+
+    module _ (k : lent.killers ≡ killers_length) where
+      pub bad_slots : lent.slots ≢ slots_length → bad_buffers? lent marks ≡ true
+      bad_slots s = rw (r, k, ne_eqb lent.slots slots_length s) refl
+
+      module _ (s : lent.slots ≡ slots_length) where
+        pub bad_marks : marks ≢ marks_length → bad_buffers? lent marks ≡ true
+        bad_marks m = rw (r, k, s, ne_eqb marks marks_length m) refl
+
+        pub good_buffers : marks ≡ marks_length → bad_buffers? lent marks ≡ false
+        good_buffers m = rw (r, k, s, m) refl
 
 -- A COMMAND, on the state s with a table of n records
 module _ (s : MarkedState) (bytes : List ℕ) (n : ℕ) where
@@ -60,11 +79,12 @@ module _ (s : MarkedState) (bytes : List ℕ) (n : ℕ) where
 
       stores_given : (outcome : Outcome) (given : Answer) (table : Option Table) → after.state.value ≡ outcome.value → MemoryPromise lengths s bytes given after
           → RecordsFor outcome given after.state.slots table → Stores (Kept given after) n table
-      stores_given outcome (Ok r) (Some table) value promise c =
-          (right,
-          λ old e.
-          promise_whole s after bytes (Ok r) old table.records (own_lengths old (e ∙ right)) promise (λ f d. let z : ◌≡◌ {A = ℕ} 0 1 = cc in absurd (omega arith))
-          (λ z L shape rep. counted_current L after.state shape rep table.records (rw value c)))
+      stores_given outcome (Ok r) (Some table) value promise c = (
+        right,
+        λ old e.
+            promise_whole s after bytes (Ok r) old table.records (own_lengths old (e ∙ right)) promise (λ f d. let z : ◌≡◌ {A = ℕ} 0 1 = cc in absurd (omega arith))
+            (λ z L shape rep. counted_current L after.state shape rep table.records (rw value c)),
+      )
       stores_given outcome (Ok r) None value promise c = absurd c
       stores_given outcome (Err f) (Some table) value promise c = absurd c
       stores_given outcome (Err f) None value promise c =
