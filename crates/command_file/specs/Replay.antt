@@ -1,5 +1,5 @@
 -- A FILE OF COMMANDS IS REPLAYED (SCOPE 6.17): its commands, how it ends, and what is promised of them.
-use Rattle.std.specs.Prelude.{◌≡◌, Bool, true, List, [], ◌∷◌, ◌++◌, map, ℕ, zero, suc, ◌+◌, ◌-◌, ◌≤◌, ◌<◌, length, take, drop, ltb, Result, Ok, Err, Some, None}
+use Rattle.std.specs.Prelude.{◌≡◌, Bool, true, List, [], ◌∷◌, ◌++◌, map, ℕ, zero, suc, ◌+◌, ◌-◌, ◌≤◌, ◌<◌, length, take, drop, ltb, Result, Err, None}
 use Rattle.model.specs.declared.command.Read.{Read}
 use Rattle.model.specs.declared.command.Read.TheVariants as found
 use Rattle.model.specs.Commands.{read_at}
@@ -9,7 +9,7 @@ use Rattle.model.specs.Numbers as refused
 use Rattle.layout.specs.declared.value.Value.{Value}
 use Rattle.layout.specs.declared.summary.Summary.{Summary}
 use Rattle.layout.specs.Memory.{MarkedState, Whole, whole_of, lent_with, fresh_marked_state, fresh_whole, Filled}
-use Rattle.layout.specs.Sizes.{CommandLent, killers_length, rows_length, slots_length, records_length}
+use Rattle.layout.specs.Sizes.{CommandLent, killers_length, rows_length, slots_length}
 use Rattle.command_file.specs.declared.Position.{Position}
 use Rattle.command_file.specs.declared.ReplayDone.{ReplayDone}
 use Rattle.model.specs.declared.refusal.Refusal.{Refusal}

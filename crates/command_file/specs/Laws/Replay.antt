@@ -322,17 +322,18 @@ module _ (s : MarkedState) (file : List ℕ) (n : ℕ) where
 
       pub replay_file : (number ran : ℕ) (after : MarkedState) (table : Table) → ltb input_most (length file) ≡ false
           → FileCounted s.marks file number ran (whole_of after table.records) → Stores (Kept number ran after) n (Some table)
-      replay_file number ran after table short t =
-          (right,
-          λ old size.
-          let fits = table_right old size in
-          record {
-            number_is = rw (good, fits, short) t.end;
-            unchanged = λ m e. let z = rw (good, fits, short) at e in absurd (omega arith);
-            none_ran = λ m e. let z = rw (good, fits, short) at e in absurd (omega arith);
-            stands = λ e. t.stands;
-            all_ran = λ e. t.count;
-          })
+      replay_file number ran after table short t = (
+        right,
+        λ old size.
+            let fits = table_right old size in
+            record {
+              number_is = rw (good, fits, short) t.end;
+              unchanged = λ m e. let z = rw (good, fits, short) at e in absurd (omega arith);
+              none_ran = λ m e. let z = rw (good, fits, short) at e in absurd (omega arith);
+              stands = λ e. t.stands;
+              all_ran = λ e. t.count;
+            },
+      )
 
 -- A FILE WITHOUT COMMANDS MAKES A FRESH BOARD (SCOPE 2.8), whatever the memory held
 stays : {s s' : Whole} → Runs Whole Member Entered s [] s' → s' ≡ s
