@@ -8,10 +8,19 @@ use Rattle.layout.specs.Sizes.{records_length}
 use Rattle.command_run.specs.declared.Done.{Done}
 use Rattle.model.specs.Promise.{Answer}
 
+-- a table of n has room for the records, where there are any; and the table with them
+abbrev pub Storable : Option Table → ℕ → Type 0
+Storable None n = Unit {0}
+Storable (Some table) n = n ≡ records_length
+
+abbrev pub stored : Option Table → List Summary → List Summary
+stored None old = old
+stored (Some table) old = table.records
+
 -- THESE RECORDS ARE TO BE STORED, or none, into a table of n: then what is promised of a table before and after is kept, whatever the table holds
-abbrev pub Stores : (List Summary → List Summary → Type 0) → ℕ → Option Table → Type 0
-Stores Promised n None = (old : List Summary) → length old ≡ n → Promised old old
-Stores Promised n (Some table) = (n ≡ records_length) × ((old : List Summary) → length old ≡ n → Promised old table.records)
+pub record Stores (Promised : List Summary → List Summary → Type 0) (n : ℕ) (table : Option Table) : Type 0 where
+  pub room : Storable table n
+  pub all : (old : List Summary) → length old ≡ n → Promised old (stored table old)
 
 -- nothing is to be stored
 abbrev pub none_to_store : Outcome → Done

@@ -1,6 +1,6 @@
 -- DEMAND 3 OF THE COMMAND ENTRY (SCOPE 6.12 to 6.15), over every list of raw commands with any lengths lent, and over every two lists; and the summary table after every
 -- list (2.9, 7.11), the check of plans (5.7, 5.8) and the search for one (5.9, 5.10). Nothing is assumed but that each command of a list meets the entry's contract, which `command` of this crate is proved to do.
-use Rattle.std.specs.Prelude.{◌≡◌, List, ◌↔◌, ◌⊎◌, ℕ, ◌≤◌, ◌<◌, length, get_or, Some, None, Result, Ok, Err}
+use Rattle.std.specs.Prelude.{◌≡◌, List, ◌↔◌, ◌⊎◌, ℕ, ◌≤◌, ◌<◌, length, get_or, Some, None, Result, Ok}
 use Rattle.std.proofs.Common.{◌∙◌, inl, inr, ⊎_elim, arith}
 use Rattle.model.specs.Board.{Rule, Board, call_at, Cancelled, Live, InForce, SelfSupporting, Viable, Alive, Dead, FullPlan, AtLeast}
 use Rattle.model.specs.Records.{Open, Struck, Caused, KillerIn, Ring, NoRing, EscapeFromAll, Recorded}

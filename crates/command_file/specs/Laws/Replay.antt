@@ -282,26 +282,32 @@ module _ (s : MarkedState) (file : List ℕ) (n : ℕ) where
 
   pub replay_lengths : bad_buffers? (lent_of s.state) (length s.marks) ≡ true → Stores (Kept (number refused.BufferLength) 0 s) n None
   replay_lengths bad =
-      λ old size.
       record {
-        number_is = rw bad refl;
-        unchanged = λ m e. refl;
-        none_ran = λ m e. refl;
-        stands = λ e. let z = rw bad at e in absurd (omega arith);
-        all_ran = λ e. let z = rw bad at e in absurd (omega arith);
+        room = tt;
+        all = λ old size.
+            record {
+              number_is = rw bad refl;
+              unchanged = λ m e. refl;
+              none_ran = λ m e. refl;
+              stands = λ e. let z = rw bad at e in absurd (omega arith);
+              all_ran = λ e. let z = rw bad at e in absurd (omega arith);
+            };
       }
 
   module _ (good : bad_buffers? (lent_of s.state) (length s.marks) ≡ false) where
     pub replay_table : n ≢ records_length → Stores (Kept (number refused.TableLength) 0 s) n None
     replay_table other =
-        λ old size.
-        let bad : bad_table? (lent_with (whole_of s old)) ≡ true = rw (size, ne_eqb n records_length other) refl in
         record {
-          number_is = rw (good, bad) refl;
-          unchanged = λ m e. refl;
-          none_ran = λ m e. refl;
-          stands = λ e. let z = rw (good, bad) at e in absurd (omega arith);
-          all_ran = λ e. let z = rw (good, bad) at e in absurd (omega arith);
+          room = tt;
+          all = λ old size.
+              let bad : bad_table? (lent_with (whole_of s old)) ≡ true = rw (size, ne_eqb n records_length other) refl in
+              record {
+                number_is = rw (good, bad) refl;
+                unchanged = λ m e. refl;
+                none_ran = λ m e. refl;
+                stands = λ e. let z = rw (good, bad) at e in absurd (omega arith);
+                all_ran = λ e. let z = rw (good, bad) at e in absurd (omega arith);
+              };
         }
 
     module _ (right : n ≡ records_length) where
@@ -310,30 +316,34 @@ module _ (s : MarkedState) (file : List ℕ) (n : ℕ) where
 
       pub replay_long : ltb input_most (length file) ≡ true → Stores (Kept (number refused.FileLength) 0 s) n None
       replay_long long =
-          λ old size.
-          let fits = table_right old size in
           record {
-            number_is = rw (good, fits, long) refl;
-            unchanged = λ m e. refl;
-            none_ran = λ m e. refl;
-            stands = λ e. let z = rw (good, fits, long) at e in absurd (omega arith);
-            all_ran = λ e. let z = rw (good, fits, long) at e in absurd (omega arith);
+            room = tt;
+            all = λ old size.
+                let fits = table_right old size in
+                record {
+                  number_is = rw (good, fits, long) refl;
+                  unchanged = λ m e. refl;
+                  none_ran = λ m e. refl;
+                  stands = λ e. let z = rw (good, fits, long) at e in absurd (omega arith);
+                  all_ran = λ e. let z = rw (good, fits, long) at e in absurd (omega arith);
+                };
           }
 
       pub replay_file : (number ran : ℕ) (after : MarkedState) (table : Table) → ltb input_most (length file) ≡ false
           → FileCounted s.marks file number ran (whole_of after table.records) → Stores (Kept number ran after) n (Some table)
-      replay_file number ran after table short t = (
-        right,
-        λ old size.
-            let fits = table_right old size in
-            record {
-              number_is = rw (good, fits, short) t.end;
-              unchanged = λ m e. let z = rw (good, fits, short) at e in absurd (omega arith);
-              none_ran = λ m e. let z = rw (good, fits, short) at e in absurd (omega arith);
-              stands = λ e. t.stands;
-              all_ran = λ e. t.count;
-            },
-      )
+      replay_file number ran after table short t =
+          record {
+            room = right;
+            all = λ old size.
+                let fits = table_right old size in
+                record {
+                  number_is = rw (good, fits, short) t.end;
+                  unchanged = λ m e. let z = rw (good, fits, short) at e in absurd (omega arith);
+                  none_ran = λ m e. let z = rw (good, fits, short) at e in absurd (omega arith);
+                  stands = λ e. t.stands;
+                  all_ran = λ e. t.count;
+                };
+          }
 
 -- A FILE WITHOUT COMMANDS MAKES A FRESH BOARD (SCOPE 2.8), whatever the memory held
 stays : {s s' : Whole} → Runs Whole Member Entered s [] s' → s' ≡ s

@@ -55,12 +55,16 @@ module _ (s : MarkedState) (bytes : List ℕ) (n : ℕ) where
 
   -- refused for a buffer, or for the table
   pub stores_lengths : bad_buffers? (lent_of s.state) (length s.marks) ≡ true → Stores (Kept (Err refused.BufferLength) s) n None
-  stores_lengths bad = λ old e. refused_whole (whole_of s old) bytes refused.BufferLength (refused_lengths (lent_with (whole_of s old)) s bytes bad)
+  stores_lengths bad =
+      record { room = tt; all = λ old e. refused_whole (whole_of s old) bytes refused.BufferLength (refused_lengths (lent_with (whole_of s old)) s bytes bad) }
 
   module _ (good : bad_buffers? (lent_of s.state) (length s.marks) ≡ false) where
     pub stores_table : n ≢ records_length → Stores (Kept (Err refused.TableLength) s) n None
     stores_table other =
-        λ old e. refused_whole (whole_of s old) bytes refused.TableLength (refused_table (lent_with (whole_of s old)) s bytes good (another old e))
+        record {
+          room = tt;
+          all = λ old e. refused_whole (whole_of s old) bytes refused.TableLength (refused_table (lent_with (whole_of s old)) s bytes good (another old e));
+        }
       where
         another : (old : List Summary) → length old ≡ n → bad_table? (lent_with (whole_of s old)) ≡ true
         another old e = rw (e, ne_eqb n records_length other) refl
@@ -79,18 +83,20 @@ module _ (s : MarkedState) (bytes : List ℕ) (n : ℕ) where
 
       stores_given : (outcome : Outcome) (given : Answer) (table : Option Table) → after.state.value ≡ outcome.value → MemoryPromise lengths s bytes given after
           → RecordsFor outcome given after.state.slots table → Stores (Kept given after) n table
-      stores_given outcome (Ok r) (Some table) value promise c = (
-        right,
-        λ old e.
-            promise_whole s after bytes (Ok r) old table.records (own_lengths old (e ∙ right)) promise (λ f d. let z : ◌≡◌ {A = ℕ} 0 1 = cc in absurd (omega arith))
-            (λ z L shape rep. counted_current L after.state shape rep table.records (rw value c)),
-      )
+      stores_given outcome (Ok r) (Some table) value promise c =
+          record {
+            room = right;
+            all = λ old e.
+                promise_whole s after bytes (Ok r) old table.records (own_lengths old (e ∙ right)) promise (λ f d. let z : ◌≡◌ {A = ℕ} 0 1 = cc in absurd (omega arith))
+                (λ z L shape rep. counted_current L after.state shape rep table.records (rw value c));
+          }
       stores_given outcome (Ok r) None value promise c = absurd c
       stores_given outcome (Err f) (Some table) value promise c = absurd c
       stores_given outcome (Err f) None value promise c =
-          λ old e.
-          promise_whole s after bytes (Err f) old old (own_lengths old (e ∙ right)) promise (λ g d. refl)
-          (λ z. absurd (number_not_zero f z))
+          record {
+            room = tt;
+            all = λ old e. promise_whole s after bytes (Err f) old old (own_lengths old (e ∙ right)) promise (λ g d. refl) (λ z. absurd (number_not_zero f z));
+          }
 
       pub stores_done : (outcome : Outcome) (done : Done) → after.state.value ≡ outcome.value → MemoryPromise lengths s bytes outcome.answer after
           → WithRecords outcome after.state.slots done
