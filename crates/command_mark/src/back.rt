@@ -63,6 +63,7 @@ fn back_unchecked(
 }
 
 // The whole of kind 8: refused, and nothing is changed; or the board is brought back.
+#[inline(never)]
 pub fn back_board(
     value: Value,
     names: &[u8; NAMES],

@@ -51,6 +51,7 @@ fn keep_unchecked(
 }
 
 // The whole of kind 7: refused, and nothing is changed; or the board is kept.
+#[inline(never)]
 pub fn keep_board(
     value: Value,
     names: &mut [u8; NAMES],

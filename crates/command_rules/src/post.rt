@@ -39,6 +39,7 @@ pub fn post_unchecked(
 }
 
 // The whole of kind 4: refused, and nothing is changed; or the draft is in force, and there is none left.
+#[inline(never)]
 pub fn post(
     value: Value,
     rows: &mut [u8; ROWS],

@@ -39,6 +39,7 @@ pub fn retract_unchecked(
 }
 
 // The whole of kind 5: refused, and nothing is changed; or the rule is out of force.
+#[inline(never)]
 pub fn retract(
     value: Value,
     number: u8,

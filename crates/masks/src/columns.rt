@@ -48,13 +48,6 @@ pub fn first_columns<const N: usize>(x: Columns) -> Columns
     }
 }
 
-// A byte as a wider number.
-pub fn wide(b: u8) -> u32
-    ensures { (result ≡ b) × (result < 256) }
-{
-    b as u32
-}
-
 // The four bytes from i on as one number, the first as its lowest: so that a row is read at once.
 pub fn word(rows: &[u8; ROWS], i: usize) -> u32
     requires { i + 3 < ROWS }
