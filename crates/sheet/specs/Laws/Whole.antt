@@ -1,6 +1,6 @@
 -- THE WHOLE SHEET from its parts: the lines of the input, and the last line behind them. Assumes nothing.
 use Rattle.std.specs.Prelude.{◌≡◌, refl, Bool, true, false, cond, List, [], ◌∷◌, ◌++◌, ℕ, ◌≤◌, ◌<◌, length, take, drop, ltb}
-use Rattle.std.proofs.Common.{sym, ap, ◌∙◌, arith, length-append, take-append-drop, length-take-le, lt-ltb, le-ltb, Ok, Err, Result}
+use Rattle.std.proofs.Common.{sym, ap, ◌∙◌, arith, length-append, take-append-drop, take_at, lt-ltb, le-ltb, Ok, Err, Result}
 use Rattle.model.specs.declared.refusal.Refusal.{Refusal}
 use Rattle.model.specs.declared.refusal.Refusal.TheVariants as kind
 use Rattle.model.specs.Promise.{values_at}
@@ -56,18 +56,23 @@ module _ (input before : List ℕ) where
         bytes = rw e (written_start (sheet_of input) before after n a);
       }
 
--- WHAT IS WRITTEN LIES IN THE BUFFER, for whoever calls
+head_same : (m n : ℕ) → m ∷ [] ≡ n ∷ [] → m ≡ n
+head_same m n e = cc
+
+-- WHAT IS WRITTEN LIES IN THE BUFFER and is the sheet, for whoever calls
 module _ {input before : List ℕ} {given : Result ℕ Refusal} {after : List ℕ} (p : SheetPromise input before given after) {n : ℕ} (is : given ≡ Ok n) where
-  pub written_fits : n ≤ length after
-  written_fits = go (ltb (length before) sheet_most) (ap (λ (r : Result ℕ Refusal). number_of r) (sym is) ∙ p.number) (ap sheet_values (sym is) ∙ p.values) p.bytes
+  written : (n ≡ length (sheet_of input)) × (after ≡ sheet_of input ++ drop (length (sheet_of input)) before)
+  written = go (ltb (length before) sheet_most) (ap (λ (r : Result ℕ Refusal). number_of r) (sym is) ∙ p.number) (ap sheet_values (sym is) ∙ p.values) p.bytes
     where
-      fits : (sheet : List ℕ) → n ∷ [] ≡ length sheet ∷ [] → after ≡ sheet ++ drop (length sheet) before → n ≤ length after
-      fits sheet v b = let same : n ≡ length sheet = cc in omega (arith, ap length b, length-append sheet (drop (length sheet) before))
-
       go : (short : Bool) → ◌≡◌ {A = ℕ} 0 (cond short 1 0) → n ∷ [] ≡ values_at (cond short 1 0) (length (sheet_of input) ∷ [])
-          → after ≡ cond short before (sheet_of input ++ drop (length (sheet_of input)) before) → n ≤ length after
+          → after ≡ cond short before (sheet_of input ++ drop (length (sheet_of input)) before)
+          → (n ≡ length (sheet_of input)) × (after ≡ sheet_of input ++ drop (length (sheet_of input)) before)
       go true e v b = absurd (omega arith)
-      go false e v b = fits (sheet_of input) v b
+      go false e v b = (head_same n (length (sheet_of input)) v, b)
 
-  pub written_part : n ≡ length (take n after)
-  written_part = sym (length-take-le n after written_fits)
+  pub written_fits : n ≤ length after
+  written_fits = omega (arith, written.0, ap length written.1, length-append (sheet_of input) (drop (length (sheet_of input)) before))
+
+  pub written_bytes : take n after ≡ sheet_of input
+  written_bytes =
+      ap (take n) written.1 ∙ take_at (sheet_of input) (drop (length (sheet_of input)) before) n (sym written.0)
