@@ -11,7 +11,6 @@ ghost use Rattle.std.specs.Io.KnownBytes.{Appends};
 ghost use Rattle.model.specs.Sheet.{sheet_of};
 ghost use Rattle.berthsheet.specs.Streams.{ReadsFull};
 
-use sheet::answer::Sheet;
 use std::io;
 use std::io::{Read, Write};
 use std::process::ExitCode;
@@ -51,8 +50,7 @@ fn write_sheet<R: Read, W: Write>(input: &mut R, output: &mut W) -> Result<(), F
         Ok(n) => n,
         Err(why) => return Err(Failure::Input(why)),
     };
-    let answer = sheet::sheet(&bytes[..n], &mut out);
-    let Sheet::Written(m) = answer else {
+    let Ok(m) = sheet::sheet(&bytes[..n], &mut out) else {
         return Err(Failure::Room);
     };
     match output.write_all(&out[..m]) {

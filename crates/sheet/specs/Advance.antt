@@ -1,12 +1,12 @@
 -- ONE ROUND OVER THE INPUT: what the sheet's definition makes of what is read at a place, and what the code does there.
 use Rattle.std.specs.Prelude.{◌≡◌, List, ℕ, ◌+◌, ◌≤◌}
-use Rattle.model.specs.declared.answer.Answer.{Answer}
 use Rattle.model.specs.declared.command.Command.{Command}
 use Rattle.model.specs.declared.command.Read.{Read}
 use Rattle.model.specs.declared.command.Read.TheVariants as found
 use Rattle.model.specs.declared.command.Decoded.{Decoded}
 use Rattle.model.specs.Ledger.{Ledger, LedgerShape, obey}
 use Rattle.model.specs.Marks.{RepresentsMarked}
+use Rattle.model.specs.Promise.{Answer}
 use Rattle.model.specs.Sheet.{file_refusal, read_line}
 use Rattle.command_obey.specs.Obeys.{Obeys}
 use Rattle.sheet_lines.specs.Append.{Appended}
@@ -31,7 +31,7 @@ line_of L d = read_line (file_refusal L d.read d.counts) d.read L.board (ledger_
 -- the place to read at next; behind a refusal 3 or 4 it is the end (SCOPE 7.3)
 abbrev pub place_by : Read → ℕ → ℕ → ℕ
 place_by (found.Command c) following end = following
-place_by (found.Refused k n) following end = end
+place_by (found.Refused k e) following end = end
 place_by found.End following end = end
 
 unfoldable pub next_place : Decoded → ℕ → ℕ

@@ -72,8 +72,8 @@ pub fn advance(board: &mut Board, progress: Progress, input: &[u8], out: &mut [u
     let decoded = command_decode::decode(input, progress.read);
     match decoded.read {
         Read::Command(command) => advance_command(board, progress, command, decoded, out),
-        Read::Refused(kind, number) => {
-            let written = refusal_line(out, progress.written, kind, number);
+        Read::Refused(kind, refusal) => {
+            let written = refusal_line(out, progress.written, kind, refusal);
             Progress {
                 read: input.len(),
                 written,

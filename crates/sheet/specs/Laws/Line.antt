@@ -1,12 +1,11 @@
 -- THE LINE OF A COMMAND IS SHORT, so there is room for it. Assumes nothing.
-use Rattle.std.specs.Prelude.{◌≡◌, refl, List, ℕ, ◌≤◌, ◌<◌, length}
+use Rattle.std.specs.Prelude.{◌≡◌, refl, List, ℕ, ◌≤◌, ◌<◌, length, Ok}
 use Rattle.std.proofs.Common.{sym, ap, ◌∙◌, arith}
 use Rattle.model.specs.declared.answer.Report.{Report}
-use Rattle.model.specs.declared.answer.Answer.{Answer}
-use Rattle.model.specs.declared.answer.Answer.TheVariants as answer
 use Rattle.model.specs.declared.command.Command.{Command}
 use Rattle.model.specs.declared.command.Command.TheVariants as kind
 use Rattle.model.specs.Commands.{kind_of}
+use Rattle.model.specs.Promise.{Answer}
 use Rattle.model.specs.Sheet.{accepted_line, refused_line}
 use Rattle.sheet_lines.specs.Append.{Room, Appended}
 use Rattle.sheet.specs.Line.{answer_line, ShortAnswer, LineAppended}
@@ -39,8 +38,8 @@ kind_digit (kind.Keep n) = omega arith
 kind_digit (kind.Back n) = omega arith
 kind_digit (kind.Cancel c) = omega arith
 
-module _ (c : Command) {given : Answer} {q : Report} {kind : ℕ} (is : given ≡ answer.Accepted q) (short : ShortAnswer given) (same : kind ≡ kind_of c) where
-  accepted_short : ShortAnswer (answer.Accepted q)
+module _ (c : Command) {given : Answer} {q : Report} {kind : ℕ} (is : given ≡ Ok q) (short : ShortAnswer given) (same : kind ≡ kind_of c) where
+  accepted_short : ShortAnswer (Ok q)
   accepted_short = rw is at short
 
   acceptance_most : length (accepted_line kind q.struck q.reopened) ≤ line_most
