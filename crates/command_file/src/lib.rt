@@ -61,43 +61,38 @@ fn fill_fresh(rows: &mut [u8; ROWS], killers: &mut [u8; KILLERS], slots: &mut [u
 }
 
 // The file has ended: nothing more of it is read.
-fn end_at(position: Position, end: usize, ended: Result<(), Refusal>) -> Position
-    ensures { result ≡ ended_at position end ended }
+fn end_at(position: &mut Position, end: usize, ended: Result<(), Refusal>)
+    ensures { position.new ≡ ended_at position.old end ended }
 {
-    Position {
-        at: end,
-        ended,
-        ..position
-    }
+    position.at = end;
+    position.ended = ended;
 }
 
 // What stands at the place: a command is run, and anything else ends the file.
 fn take_next(
-    position: Position,
+    position: &mut Position,
     names: &mut [u8; NAMES],
     file: &[u8],
     rows: &mut [u8; ROWS],
     killers: &mut [u8; KILLERS],
     slots: &mut [u8; SLOTS],
     marks: &mut [u8; MARKS],
-) -> Position
-    requires { InFile file.now position }
+)
+    requires { InFile file.now position.old }
     ensures { Taken
-        file.now position (marked_memory position.value names.old rows.old killers.old slots.old marks.old) result
-        (marked_memory result.value names.new rows.new killers.new slots.new marks.new) }
+        file.now position.old (marked_memory position.old.value names.old rows.old killers.old slots.old marks.old) position.new
+        (marked_memory position.new.value names.new rows.new killers.new slots.new marks.new) }
 {
-    let Position { value, at, ran, .. } = position;
-    let decoded = decode(file, at);
+    let decoded = decode(file, position.at);
     let next = decoded.next;
     match decoded.read {
         Read::Command(_) => {
-            let outcome = obey_bytes(value, names, &file[at..next], rows, killers, slots, marks);
-            Position {
-                value: outcome.value,
-                at: next,
-                ran: ran + 1,
-                ended: Ok(()),
-            }
+            let bytes = &file[position.at..next];
+            let outcome = obey_bytes(position.value, names, bytes, rows, killers, slots, marks);
+            position.value = outcome.value;
+            position.at = next;
+            position.ran += 1;
+            position.ended = Ok(());
         }
         Read::Refused(_, refusal) => end_at(position, file.len(), Err(refusal)),
         Read::End => end_at(position, file.len(), Ok(())),
@@ -125,7 +120,7 @@ fn take_all(
         ended: Ok(()),
     };
     while position.at < file.len() {
-        position = take_next(position, names, file, rows, killers, slots, marks);
+        take_next(&mut position, names, file, rows, killers, slots, marks);
     }
     let Position {
         value,

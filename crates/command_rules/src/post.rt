@@ -22,7 +22,7 @@ pub fn check_post(heads: &Heads, number: u8, columns: u8) -> Result<(), Refusal>
 
 // A draft comes into force under its number, whatever stood there. The value's own draft stays.
 pub fn post_unchecked(
-    value: Value,
+    mut value: Value,
     draft: Draft,
     rows: &mut [u8; ROWS],
     killers: &mut [u8; KILLERS],
@@ -32,10 +32,9 @@ pub fn post_unchecked(
         draft (memory value rows.old killers.old slots.old) result.answer
         (memory result.value rows.new killers.new slots.new) }
 {
-    let mut heads = value.heads;
     let p = rule_index(draft.number);
-    let struck = filter_post::post(rows, killers, slots, &mut heads, p, &draft.rule);
-    Outcome::accepted(struck, 0, struck, value.with_heads(heads))
+    let struck = filter_post::post(rows, killers, slots, &mut value.heads, p, &draft.rule);
+    Outcome::accepted(struck, 0, struck, value)
 }
 
 // The whole of kind 4: refused, and nothing is changed; or the draft is in force, and there is none left.

@@ -22,7 +22,7 @@ pub fn check_retract(heads: &Heads, number: u8) -> Result<(), Refusal>
 
 // The rule under the number leaves force, whatever stands there.
 pub fn retract_unchecked(
-    value: Value,
+    mut value: Value,
     number: u8,
     rows: &mut [u8; ROWS],
     killers: &mut [u8; KILLERS],
@@ -32,10 +32,9 @@ pub fn retract_unchecked(
         number (memory value rows.old killers.old slots.old) result.answer
         (memory result.value rows.new killers.new slots.new) }
 {
-    let mut heads = value.heads;
     let p = rule_index(number);
-    let count = filter_retract::retract(rows, killers, slots, &mut heads, p);
-    Outcome::accepted(0, count.reopened, count.touched, value.with_heads(heads))
+    let count = filter_retract::retract(rows, killers, slots, &mut value.heads, p);
+    Outcome::accepted(0, count.reopened, count.touched, value)
 }
 
 // The whole of kind 5: refused, and nothing is changed; or the rule is out of force.

@@ -7,7 +7,7 @@ pub loop-position-init : goal.loop-position-init
 loop-position-init c = taken_none _ _ _ _ c.told-marks refl refl refl c.requires
 
 pub loop-position-preserved : goal.loop-position-preserved
-loop-position-preserved c = (taken_more _ _ _ _ _ _ c.loop-position.invariant c.loop-position-test.true c.take_next-position.ensures).1
+loop-position-preserved c = (taken_more _ _ _ _ _ _ c.loop-position.invariant c.loop-position-test.true c.take_next.ensures).1
 
 pub returns : goal.returns
 returns c = file_taken _ _ _ _ c.loop-position.invariant c.loop-position-test.false
