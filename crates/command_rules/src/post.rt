@@ -2,7 +2,7 @@
 ghost use Rattle.std.specs.Prelude.{◌≡◌};
 ghost use Rattle.model.specs.declared.command.Command.TheVariants as kind;
 ghost use Rattle.command_rules.specs.Checks.{post_checks};
-ghost use Rattle.command_rules.specs.Changes.{Posted, RulesPromise};
+ghost use Rattle.command_rules.specs.Changes.{RulesPromise};
 ghost use Rattle.layout.specs.Memory.{memory};
 ghost use Rattle.model.specs.Refusals.{first_of, number_of};
 
@@ -20,27 +20,10 @@ pub fn check_post(heads: &Heads, number: u8, columns: u8) -> Result<(), Refusal>
     Refusal::InForce.when(heads.arity[rule_index(number)] != 0)
 }
 
-// A draft comes into force under its number, whatever stood there. The value's own draft stays.
-pub fn post_unchecked(
-    mut value: Value,
-    draft: Draft,
-    rows: &mut [u8; ROWS],
-    killers: &mut [u8; KILLERS],
-    slots: &mut [u8; SLOTS],
-) -> Outcome
-    ensures { Posted
-        draft (memory value rows.old killers.old slots.old) result.answer
-        (memory result.value rows.new killers.new slots.new) }
-{
-    let p = rule_index(draft.number);
-    let struck = filter_post::post(rows, killers, slots, &mut value.heads, p, &draft.rule);
-    Outcome::accepted(struck, 0, struck, value)
-}
-
 // The whole of kind 4: refused, and nothing is changed; or the draft is in force, and there is none left.
 #[inline(never)]
 pub fn post(
-    value: Value,
+    mut value: Value,
     rows: &mut [u8; ROWS],
     killers: &mut [u8; KILLERS],
     slots: &mut [u8; SLOTS],
@@ -49,13 +32,11 @@ pub fn post(
         kind.Post (memory value rows.old killers.old slots.old) result.answer
         (memory result.value rows.new killers.new slots.new) }
 {
-    let draft = value.draft;
-    if let Err(refusal) = check_post(&value.heads, draft.number, draft.rule.arity) {
+    if let Err(refusal) = check_post(&value.heads, value.draft.number, value.draft.rule.arity) {
         return Outcome::refused(refusal, value);
     }
-    let Outcome { answer, value } = post_unchecked(value, draft, rows, killers, slots);
-    Outcome {
-        answer,
-        value: value.with_draft(Draft::empty()),
-    }
+    let p = rule_index(value.draft.number);
+    let struck = filter_post::post(rows, killers, slots, &mut value.heads, p, &value.draft.rule);
+    value.draft = Draft::empty();
+    Outcome::accepted(struck, 0, struck, value)
 }

@@ -1,4 +1,6 @@
 -- What is refused, and when, is the check's; what a post leaves is the stepped ledger's.
+use Rattle.std.specs.Prelude.{refl}
+use Rattle.layout.specs.Memory.{memory}
 use Rattle.command_rules.proofs.Laws.Changes.{post_refused, post_accepted}
 use Rattle.command_rules.proofs.post.post.Goals as goal
 
@@ -7,5 +9,11 @@ returns-in-Err c ns = rw c.refused.ensures (post_refused _ ns _ c.in-Err.ensures
 
 pub returns : goal.returns
 returns c ns =
-    rw c.with_draft.ensures
-    (post_accepted _ ns _ _ c.post_unchecked-answer.ensures _ c.empty.ensures c.in_default.ensures)
+    rw c.accepted.ensures
+    (post_accepted _ ns _ (memory (record { heads = _; draft = _ }) _ _ _) (record {
+      struck = _;
+      done = rw (← c.rule_index-p.ensures) c.post-struck.ensures.done;
+      counts = c.post-struck.ensures.counts;
+      draft = refl;
+      answer_is = refl;
+    }) _ c.empty-value.ensures c.in_default.ensures)
