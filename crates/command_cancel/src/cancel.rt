@@ -38,6 +38,7 @@ pub fn cancel_unchecked(
 }
 
 // The whole of kind 9: refused, and nothing is changed; or the call is cancelled.
+// In a frame of its own, for the stack.
 #[inline(never)]
 pub fn cancel_call(
     value: Value,

@@ -50,6 +50,7 @@ pub fn redraft(counts: &[u8; 32], slots: &[u8], head: Head) -> Result<Draft, Ref
     Ok(draft_of(head))
 }
 
+// In a frame of its own, for the stack.
 #[inline(never)]
 pub fn start_draft(value: Value, head: Head, slots: &[u8]) -> Outcome
     ensures { StartsDraft value slots.now head result }

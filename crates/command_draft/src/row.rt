@@ -52,6 +52,7 @@ pub fn redraft(counts: &[u8; 32], mut draft: Draft, row: Row) -> Result<Draft, R
     Ok(draft)
 }
 
+// In a frame of its own, for the stack.
 #[inline(never)]
 pub fn add_row(value: Value, row: Row) -> Outcome
     ensures { AddsRow value row result }

@@ -152,6 +152,7 @@ fn run_file(
 }
 
 // A file that is refused: nothing was run, and nothing is to be stored.
+// In a frame of its own, for the stack.
 #[inline(never)]
 fn refused(refusal: Refusal, value: Value) -> ReplayDone
     ensures { result ≡ none_replayed refusal value }

@@ -23,6 +23,7 @@ pub fn redraft(counts: &[u8; 32], slots: &[u8], f: GapRule) -> Result<Draft, Ref
     Ok(made.draft)
 }
 
+// In a frame of its own, for the stack.
 #[inline(never)]
 pub fn draft_gap(value: Value, f: GapRule, slots: &[u8]) -> Outcome
     ensures { DraftPromise value slots.now (kind.Gap f) result }

@@ -63,6 +63,7 @@ fn back_unchecked(
 }
 
 // The whole of kind 8: refused, and nothing is changed; or the board is brought back.
+// In a frame of its own, for the stack.
 #[inline(never)]
 pub fn back_board(
     value: Value,

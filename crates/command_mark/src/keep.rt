@@ -51,6 +51,7 @@ fn keep_unchecked(
 }
 
 // The whole of kind 7: refused, and nothing is changed; or the board is kept.
+// In a frame of its own, for the stack.
 #[inline(never)]
 pub fn keep_board(
     value: Value,

@@ -21,6 +21,7 @@ use model::answer::Outcome;
 use model::command::Command;
 
 // Kind 1 with the names: where it is accepted both are forgotten.
+// In a frame of its own, for the stack.
 #[inline(never)]
 fn make_anew(
     value: Value,

@@ -21,6 +21,7 @@ pub fn check_post(heads: &Heads, number: u8, columns: u8) -> Result<(), Refusal>
 }
 
 // The whole of kind 4: refused, and nothing is changed; or the draft is in force, and there is none left.
+// In a frame of its own, for the stack.
 #[inline(never)]
 pub fn post(
     mut value: Value,

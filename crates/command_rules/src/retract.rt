@@ -21,6 +21,7 @@ pub fn check_retract(heads: &Heads, number: u8) -> Result<(), Refusal>
 }
 
 // The whole of kind 5: refused, and nothing is changed; or the rule is out of force.
+// In a frame of its own, for the stack.
 #[inline(never)]
 pub fn retract(
     mut value: Value,

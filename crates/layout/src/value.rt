@@ -1,6 +1,6 @@
 // The value beside the lent buffers, whole.
 ghost use Rattle.std.specs.Prelude.{◌≡◌, length};
-ghost use Rattle.layout.specs.Value.{fresh_heads, empty_rule, empty_draft, fresh_value, with_draft, with_heads};
+ghost use Rattle.layout.specs.Value.{fresh_heads, empty_rule, empty_draft, fresh_value, with_draft};
 ghost use Rattle.layout.specs.Sizes.{bad_lent?};
 
 // The calls and the heads of the rules in force.
@@ -121,12 +121,5 @@ impl Value {
         ensures { result ≡ with_draft self draft }
     {
         Self { draft, ..self }
-    }
-
-    // The same value with other heads.
-    pub fn with_heads(self, heads: Heads) -> Self
-        ensures { result ≡ with_heads self heads }
-    {
-        Self { heads, ..self }
     }
 }
