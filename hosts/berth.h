@@ -93,8 +93,8 @@ extern "C" {
 
 /*
  * The stack that a call needs, with the copies of the value that the questions are handed. It is measured and not proved, on x86-64. berth_first_plan alone
- * needs so much: on the board where its way down is longest, hosts/stack.c found 23,232 bytes. Over every other function and the commands of a full board it
- * found 11,800, the most: for a host that never asks for a plan, 12,288 are enough. That the search needs no more rests on the compiler of the library, which
+ * needs so much: on the board where its way down is longest, hosts/stack.c found 21,584 bytes. Over every other function and the commands of a full board it
+ * found 12,008, the most: for a host that never asks for a plan, 12,288 are enough. That the search needs no more rests on the compiler of the library, which
  * makes a loop of the step from slot to slot, and keeps the words of the rows once; each run of the gate
  * measures both again.
  */

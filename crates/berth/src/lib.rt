@@ -68,7 +68,7 @@ pub extern "C" fn berth_command(
 {
     let outcome = board::command(*value, names, bytes, rows, killers, slots, marks, table);
     *value = outcome.value;
-    berth_reply::of_outcome(outcome)
+    outcome.into()
 }
 
 // The memory becomes a fresh board's, whatever it held, and the commands of a file are run on it; a file without bytes leaves the fresh board. All of it is written in
@@ -90,7 +90,7 @@ pub extern "C" fn berth_replay(
 {
     let replayed = board::replay(*value, names, file, rows, killers, slots, marks, table);
     *value = replayed.value;
-    berth_reply::of_replayed(replayed)
+    replayed.into()
 }
 
 // The mask of a call's open slots, with the number of its ones.
@@ -104,7 +104,7 @@ pub extern "C" fn berth_open_slots(
 ) -> SlotsReply
     ensures { Replied (SlotsPromise (memory value rows.now killers.now slots.now) call) slots_reply result }
 {
-    berth_reply::of_open_slots(questions::open_slots(value, rows, killers, slots, call))
+    questions::open_slots(value, rows, killers, slots, call).into()
 }
 
 // Open, struck with its cause, or of a cancelled call.
@@ -119,7 +119,7 @@ pub extern "C" fn berth_slot_state(
 ) -> StateReply
     ensures { Replied (StatePromise (memory value rows.now killers.now slots.now) call slot) state_reply result }
 {
-    berth_reply::of_slot_state(questions::slot_state(value, rows, killers, slots, call, slot))
+    questions::slot_state(value, rows, killers, slots, call, slot).into()
 }
 
 // Alive, or its killer's column.
@@ -134,7 +134,7 @@ pub extern "C" fn berth_row_state(
 ) -> RowReply
     ensures { Replied (RowPromise (memory value rows.now killers.now slots.now) rule row) row_reply result }
 {
-    berth_reply::of_row_state(questions::row_state(value, rows, killers, slots, rule, row))
+    questions::row_state(value, rows, killers, slots, rule, row).into()
 }
 
 // Where the row's four bytes stand in the lent row buffer: no byte of it where `berth_row_state` refuses.
@@ -168,7 +168,7 @@ pub extern "C" fn berth_support(
         (SupportPromise (memory value rows.now killers.now slots.now) rule column slot)
         support_reply result }
 {
-    berth_reply::of_support(questions::support(value, rows, killers, slots, rule, column, slot))
+    questions::support(value, rows, killers, slots, rule, column, slot).into()
 }
 
 // Whether a plan of 32 bytes keeps every rule in force; where it does not, the lowest of the broken rules.
@@ -182,7 +182,7 @@ pub extern "C" fn berth_check_plan(
 ) -> PlanReply
     ensures { Replied (PlanPromise (memory value rows.now killers.now slots.now) plan.now) plan_reply result }
 {
-    berth_reply::of_plan_check(plan_check::check_plan(value, rows, killers, slots, plan))
+    plan_check::check_plan(value, rows, killers, slots, plan).into()
 }
 
 // The first full plan with the trials of the search; that there is none; or that the search needs more trials than the ceiling.
@@ -196,5 +196,5 @@ pub extern "C" fn berth_first_plan(
 ) -> FirstReply
     ensures { Replied (FirstPromise (memory value rows.now killers.now slots.now) ceiling) first_reply result }
 {
-    berth_reply::of_first_plan(plan_lay::first_plan(value, rows, killers, slots, ceiling))
+    plan_lay::first_plan(value, rows, killers, slots, ceiling).into()
 }

@@ -1,21 +1,16 @@
 -- THE REPLIES: each answer of the board as a plain C struct. A number of 0 means that there is an answer, any other is the refusal's. A refusal's reply
 -- holds nothing else: 0 for a count or a mask, and 254, which is no rule's, column's or row's number, where 0 would be one.
-use Rattle.std.specs.Prelude.{◌≡◌, List, ℕ, zero, suc, ◌+◌, ◌≤◌, length, take, drop}
-use Rattle.model.specs.declared.answer.Answer.{Answer}
-use Rattle.model.specs.declared.answer.Answer.TheVariants as answer
+use Rattle.std.specs.Prelude.{◌≡◌, List, ℕ, zero, suc, ◌+◌, ◌≤◌, length, take, drop, Option, Some, None, Result, Ok, Err}
+use Rattle.model.specs.declared.refusal.Refusal.{Refusal}
 use Rattle.model.specs.declared.answer.OpenSlots.{OpenSlots}
-use Rattle.model.specs.declared.answer.OpenSlots.TheVariants as slots
 use Rattle.model.specs.declared.answer.SlotState.{SlotState}
 use Rattle.model.specs.declared.answer.SlotState.TheVariants as state
 use Rattle.model.specs.declared.answer.RowState.{RowState}
 use Rattle.model.specs.declared.answer.RowState.TheVariants as row
-use Rattle.model.specs.declared.answer.Support.{Support}
-use Rattle.model.specs.declared.answer.Support.TheVariants as support
-use Rattle.plan_model.specs.declared.answer.PlanCheck.{PlanCheck}
-use Rattle.plan_model.specs.declared.answer.PlanCheck.TheVariants as plan
+use Rattle.plan_model.specs.Check.{PlanCheck}
 use Rattle.plan_search.specs.declared.answer.FirstPlan.{FirstPlan}
 use Rattle.plan_search.specs.declared.answer.FirstPlan.TheVariants as first
-use Rattle.plan_search.specs.declared.answer.PlanAnswer.{PlanAnswer}
+use Rattle.plan_search.specs.First.{no_plan}
 use Rattle.command_file.specs.declared.Replayed.{Replayed}
 use Rattle.berth_reply.specs.declared.CommandReply.{CommandReply}
 use Rattle.berth_reply.specs.declared.ReplayReply.{ReplayReply}
@@ -26,11 +21,11 @@ use Rattle.berth_reply.specs.declared.PlaceReply.{PlaceReply}
 use Rattle.berth_reply.specs.declared.SupportReply.{SupportReply}
 use Rattle.berth_reply.specs.declared.PlanReply.{PlanReply}
 use Rattle.berth_reply.specs.declared.FirstReply.{FirstReply}
-use Rattle.model.specs.Promise.{Promise}
+use Rattle.model.specs.Promise.{Answer, Promise}
 use Rattle.model.specs.Questions.{row_checks, RowBytesPromise}
 use Rattle.command_file.specs.Replay.{ReplayPromise}
 use Rattle.layout.specs.Memory.{State, Whole}
-use Rattle.model.specs.Refusals.{first_of}
+use Rattle.model.specs.Refusals.{number, first_of, number_of}
 use Rattle.layout.specs.Places.{row_start, cancelled_byte}
 
 -- a reply hands on an answer that keeps its promise, and nothing else
@@ -41,12 +36,12 @@ pub record Replied {A B : Type 0} (Promised : A → Type 0) (replyTo : A → B) 
 
 -- S, R and T, which are 0 where refused
 abbrev pub command_reply : Answer → CommandReply
-command_reply (answer.Accepted r) = record { struck = r.struck; reopened = r.reopened; touched = r.touched; number = 0 }
-command_reply (answer.Refused n) = record { struck = 0; reopened = 0; touched = 0; number = n }
+command_reply (Ok r) = record { struck = r.struck; reopened = r.reopened; touched = r.touched; number = 0 }
+command_reply (Err e) = record { struck = 0; reopened = 0; touched = 0; number = number e }
 
 -- how many commands were run, and how the file ended
 abbrev pub replay_reply : Replayed → ReplayReply
-replay_reply r = record { ran = r.ran; number = r.number }
+replay_reply r = record { ran = r.ran; number = number_of r.ended }
 
 -- of a command and a file that is replayed: what is replied and the memory that is left, value and table and all, keep the entry's promise
 abbrev pub CommandReplied : List ℕ → Whole → CommandReply → Whole → Type 0
@@ -56,44 +51,41 @@ abbrev pub ReplayReplied : List ℕ → Whole → ReplayReply → Whole → Type
 ReplayReplied file before reply after = ReplayPromise before file reply.number reply.ran after
 
 -- the mask of a call's open slots, and its ones
-abbrev pub slots_reply : OpenSlots → SlotsReply
-slots_reply (slots.Mask mask ones) = record { mask = mask; ones = ones; number = 0 }
-slots_reply (slots.Refused n) = record { mask = 0; ones = 0; number = n }
+abbrev pub slots_reply : Result OpenSlots Refusal → SlotsReply
+slots_reply (Ok o) = record { mask = o.mask; ones = o.count; number = 0 }
+slots_reply (Err e) = record { mask = 0; ones = 0; number = number e }
 
 -- the cause of a struck slot; 255 of an open one, and 253 of one of a cancelled call, as in its byte
-abbrev pub state_reply : SlotState → StateReply
-state_reply state.Open = record { number = 0; cause = 255 }
-state_reply (state.Struck cause) = record { number = 0; cause = cause }
-state_reply state.Cancelled = record { number = 0; cause = cancelled_byte }
-state_reply (state.Refused n) = record { number = n; cause = 254 }
+abbrev pub state_reply : Result SlotState Refusal → StateReply
+state_reply (Ok state.Open) = record { number = 0; cause = 255 }
+state_reply (Ok (state.Struck cause)) = record { number = 0; cause = cause }
+state_reply (Ok state.Cancelled) = record { number = 0; cause = cancelled_byte }
+state_reply (Err e) = record { number = number e; cause = 254 }
 
 -- the killer's column of a dead row; 255 of one that is alive
-abbrev pub row_reply : RowState → RowReply
-row_reply row.Alive = record { number = 0; killer = 255 }
-row_reply (row.Killed column) = record { number = 0; killer = column }
-row_reply (row.Refused n) = record { number = n; killer = 254 }
+abbrev pub row_reply : Result RowState Refusal → RowReply
+row_reply (Ok row.Alive) = record { number = 0; killer = 255 }
+row_reply (Ok (row.Killed column)) = record { number = 0; killer = column }
+row_reply (Err e) = record { number = number e; killer = 254 }
 
 -- the supporting row; 255 where there is none
-abbrev pub support_reply : Support → SupportReply
-support_reply (support.Row w) = record { number = 0; row = w }
-support_reply support.Nothing = record { number = 0; row = 255 }
-support_reply (support.Refused n) = record { number = n; row = 254 }
+abbrev pub support_reply : Result (Option ℕ) Refusal → SupportReply
+support_reply (Ok (Some w)) = record { number = 0; row = w }
+support_reply (Ok None) = record { number = 0; row = 255 }
+support_reply (Err e) = record { number = number e; row = 254 }
 
 -- the lowest number of a rule that the plan breaks; 255 where it is kept
 abbrev pub plan_reply : PlanCheck → PlanReply
-plan_reply plan.Kept = record { number = 0; broken = 255 }
-plan_reply (plan.Broken p) = record { number = 0; broken = p }
-plan_reply (plan.Refused n) = record { number = n; broken = 254 }
+plan_reply (Ok None) = record { number = 0; broken = 255 }
+plan_reply (Ok (Some p)) = record { number = 0; broken = p }
+plan_reply (Err e) = record { number = number e; broken = 254 }
 
--- how a search ended, with its trials: 1 with a plan, 0 with none, and 2 at the ceiling. The plan stands beside it as it is
-abbrev pub search_reply : FirstPlan → List ℕ → FirstReply
-search_reply (first.Found n) plan = record { trials = n; number = 0; ending = 1; plan = plan }
-search_reply (first.Nothing n) plan = record { trials = n; number = 0; ending = 0; plan = plan }
-search_reply (first.Stopped n) plan = record { trials = n; number = 0; ending = 2; plan = plan }
-search_reply (first.Refused n) plan = record { trials = 0; number = n; ending = 254; plan = plan }
-
-abbrev pub first_reply : PlanAnswer → FirstReply
-first_reply given = search_reply given.answer given.plan
+-- how a search ended, with its trials: 1 with a plan, 0 with none, and 2 at the ceiling. The plan stands beside it; 255 throughout where none is found
+abbrev pub first_reply : Result FirstPlan Refusal → FirstReply
+first_reply (Ok (first.Found n plan)) = record { trials = n; number = 0; ending = 1; plan = plan }
+first_reply (Ok (first.Nothing n)) = record { trials = n; number = 0; ending = 0; plan = no_plan }
+first_reply (Ok (first.Stopped n)) = record { trials = n; number = 0; ending = 2; plan = no_plan }
+first_reply (Err e) = record { trials = 0; number = number e; ending = 254; plan = no_plan }
 
 -- where a row's four bytes stand in the lent row buffer, by the number of the row's refusal; no byte of it where there is one
 abbrev pub place_reply : ℕ → ℕ → ℕ → PlaceReply

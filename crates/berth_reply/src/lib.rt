@@ -8,9 +8,9 @@ ghost use Rattle.berth_reply.specs.Places.{row_place_reply};
 
 use command_file::Replayed;
 use layout::places::CANCELLED;
-use model::answer::{Answer, OpenSlots, Outcome, RowState, SlotState, Support};
-use plan_model::answer::PlanCheck;
-use plan_search::answer::{FirstPlan, PlanAnswer};
+use model::answer::{OpenSlots, Outcome, RowState, SlotState};
+use model::refusal::Refusal;
+use plan_search::answer::FirstPlan;
 
 // What a command changed: S, R and T (SCOPE 3.7), which are 0 where refused.
 #[repr(C)]
@@ -91,82 +91,101 @@ pub struct FirstReply {
     pub plan: [u8; 32],
 }
 
-pub fn of_outcome(outcome: Outcome) -> CommandReply
-    ensures { result ≡ command_reply outcome.answer }
-{
-    let answer = outcome.answer;
-    match answer {
-        Answer::Accepted(report) => CommandReply {
-            struck: report.struck,
-            reopened: report.reopened,
-            touched: report.touched,
-            number: 0,
-        },
-        Answer::Refused(number) => CommandReply {
-            struck: 0,
-            reopened: 0,
-            touched: 0,
+// No call is laid.
+const NO_PLAN: [u8; 32] = [255; 32];
+
+impl From<Outcome> for CommandReply {
+    ghost from_gives = { λ outcome reply. reply ≡ command_reply outcome.answer };
+
+    fn from(outcome: Outcome) -> Self {
+        match outcome.answer {
+            Ok(report) => CommandReply {
+                struck: report.struck,
+                reopened: report.reopened,
+                touched: report.touched,
+                number: 0,
+            },
+            Err(refusal) => CommandReply {
+                struck: 0,
+                reopened: 0,
+                touched: 0,
+                number: refusal.number(),
+            },
+        }
+    }
+}
+
+impl From<Replayed> for ReplayReply {
+    ghost from_gives = { λ replayed reply. reply ≡ replay_reply replayed };
+
+    fn from(replayed: Replayed) -> Self {
+        let number = match replayed.ended {
+            Ok(()) => 0,
+            Err(refusal) => refusal.number(),
+        };
+        ReplayReply {
+            ran: replayed.ran,
             number,
-        },
+        }
     }
 }
 
-pub fn of_replayed(replayed: Replayed) -> ReplayReply
-    ensures { result ≡ replay_reply replayed }
-{
-    ReplayReply {
-        ran: replayed.ran,
-        number: replayed.number,
+impl From<Result<OpenSlots, Refusal>> for SlotsReply {
+    ghost from_gives = { λ answer reply. reply ≡ slots_reply answer };
+
+    fn from(answer: Result<OpenSlots, Refusal>) -> Self {
+        match answer {
+            Ok(OpenSlots { mask, count }) => SlotsReply {
+                mask,
+                ones: count,
+                number: 0,
+            },
+            Err(refusal) => SlotsReply {
+                mask: 0,
+                ones: 0,
+                number: refusal.number(),
+            },
+        }
     }
 }
 
-pub fn of_open_slots(answer: OpenSlots) -> SlotsReply
-    ensures { result ≡ slots_reply answer }
-{
-    match answer {
-        OpenSlots::Mask(mask, ones) => SlotsReply {
-            mask,
-            ones,
-            number: 0,
-        },
-        OpenSlots::Refused(number) => SlotsReply {
-            mask: 0,
-            ones: 0,
-            number,
-        },
+impl From<Result<SlotState, Refusal>> for StateReply {
+    ghost from_gives = { λ answer reply. reply ≡ state_reply answer };
+
+    fn from(answer: Result<SlotState, Refusal>) -> Self {
+        match answer {
+            Ok(SlotState::Open) => StateReply {
+                number: 0,
+                cause: 255,
+            },
+            Ok(SlotState::Struck(cause)) => StateReply { number: 0, cause },
+            Ok(SlotState::Cancelled) => StateReply {
+                number: 0,
+                cause: CANCELLED,
+            },
+            Err(refusal) => StateReply {
+                number: refusal.number(),
+                cause: 254,
+            },
+        }
     }
 }
 
-pub fn of_slot_state(answer: SlotState) -> StateReply
-    ensures { result ≡ state_reply answer }
-{
-    match answer {
-        SlotState::Open => StateReply {
-            number: 0,
-            cause: 255,
-        },
-        SlotState::Struck(cause) => StateReply { number: 0, cause },
-        SlotState::Cancelled => StateReply {
-            number: 0,
-            cause: CANCELLED,
-        },
-        SlotState::Refused(number) => StateReply { number, cause: 254 },
-    }
-}
+impl From<Result<RowState, Refusal>> for RowReply {
+    ghost from_gives = { λ answer reply. reply ≡ row_reply answer };
 
-pub fn of_row_state(answer: RowState) -> RowReply
-    ensures { result ≡ row_reply answer }
-{
-    match answer {
-        RowState::Alive => RowReply {
-            number: 0,
-            killer: 255,
-        },
-        RowState::Killed(killer) => RowReply { number: 0, killer },
-        RowState::Refused(number) => RowReply {
-            number,
-            killer: 254,
-        },
+    fn from(answer: Result<RowState, Refusal>) -> Self {
+        match answer {
+            Ok(RowState::Alive) => RowReply {
+                number: 0,
+                killer: 255,
+            },
+            Ok(RowState::Killed(killer)) => RowReply { number: 0, killer },
+            Err(refusal) => RowReply {
+                number: refusal.number(),
+                killer: 254,
+            },
+        }
     }
 }
 
@@ -181,69 +200,76 @@ pub fn of_row_bytes(length: usize, rule: u8, row: u8) -> PlaceReply
         };
     }
     PlaceReply {
-        place: 256 * (rule as usize) + 4 * (row as usize),
+        place: 256 * usize::from(rule) + 4 * usize::from(row),
         length,
     }
 }
 
-pub fn of_support(answer: Support) -> SupportReply
-    ensures { result ≡ support_reply answer }
-{
-    match answer {
-        Support::Row(row) => SupportReply { number: 0, row },
-        Support::Nothing => SupportReply {
-            number: 0,
-            row: 255,
-        },
-        Support::Refused(number) => SupportReply { number, row: 254 },
+impl From<Result<Option<u8>, Refusal>> for SupportReply {
+    ghost from_gives = { λ answer reply. reply ≡ support_reply answer };
+
+    fn from(answer: Result<Option<u8>, Refusal>) -> Self {
+        match answer {
+            Ok(Some(row)) => SupportReply { number: 0, row },
+            Ok(None) => SupportReply {
+                number: 0,
+                row: 255,
+            },
+            Err(refusal) => SupportReply {
+                number: refusal.number(),
+                row: 254,
+            },
+        }
     }
 }
 
-pub fn of_plan_check(answer: PlanCheck) -> PlanReply
-    ensures { result ≡ plan_reply answer }
-{
-    match answer {
-        PlanCheck::Kept => PlanReply {
-            number: 0,
-            broken: 255,
-        },
-        PlanCheck::Broken(broken) => PlanReply { number: 0, broken },
-        PlanCheck::Refused(number) => PlanReply {
-            number,
-            broken: 254,
-        },
+impl From<Result<Option<u8>, Refusal>> for PlanReply {
+    ghost from_gives = { λ answer reply. reply ≡ plan_reply answer };
+
+    fn from(answer: Result<Option<u8>, Refusal>) -> Self {
+        match answer {
+            Ok(Some(broken)) => PlanReply { number: 0, broken },
+            Ok(None) => PlanReply {
+                number: 0,
+                broken: 255,
+            },
+            Err(refusal) => PlanReply {
+                number: refusal.number(),
+                broken: 254,
+            },
+        }
     }
 }
 
-pub fn of_first_plan(given: PlanAnswer) -> FirstReply
-    ensures { result ≡ first_reply given }
-{
-    let answer = given.answer;
-    let plan = given.plan;
-    match answer {
-        FirstPlan::Found(trials) => FirstReply {
-            trials,
-            number: 0,
-            ending: 1,
-            plan,
-        },
-        FirstPlan::Nothing(trials) => FirstReply {
-            trials,
-            number: 0,
-            ending: 0,
-            plan,
-        },
-        FirstPlan::Stopped(trials) => FirstReply {
-            trials,
-            number: 0,
-            ending: 2,
-            plan,
-        },
-        FirstPlan::Refused(number) => FirstReply {
-            trials: 0,
-            number,
-            ending: 254,
-            plan,
-        },
+impl From<Result<FirstPlan, Refusal>> for FirstReply {
+    ghost from_gives = { λ answer reply. reply ≡ first_reply answer };
+
+    fn from(answer: Result<FirstPlan, Refusal>) -> Self {
+        match answer {
+            Ok(FirstPlan::Found(trials, plan)) => FirstReply {
+                trials,
+                number: 0,
+                ending: 1,
+                plan,
+            },
+            Ok(FirstPlan::Nothing(trials)) => FirstReply {
+                trials,
+                number: 0,
+                ending: 0,
+                plan: NO_PLAN,
+            },
+            Ok(FirstPlan::Stopped(trials)) => FirstReply {
+                trials,
+                number: 0,
+                ending: 2,
+                plan: NO_PLAN,
+            },
+            Err(refusal) => FirstReply {
+                trials: 0,
+                number: refusal.number(),
+                ending: 254,
+                plan: NO_PLAN,
+            },
+        }
     }
 }

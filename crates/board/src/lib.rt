@@ -4,9 +4,12 @@
 // of which specs/Laws/Demands.antt has demand 3. Assumed: nothing.
 #![tactic(auto)]
 
+ghost use Rattle.std.specs.Prelude.{◌≡◌, length};
 ghost use Rattle.model.specs.Promise.{Promise};
 ghost use Rattle.layout.specs.Memory.{marked_memory, whole_of};
 ghost use Rattle.command_file.specs.Replay.{ReplayPromise};
+ghost use Rattle.model.specs.Refusals.{number_of};
+ghost use Rattle.command_run.specs.Store.{Storable, stored};
 
 pub use command_file::Replayed;
 use command_file::replay_core;
@@ -14,14 +17,25 @@ use command_run::command_core;
 pub use layout::names::MarkedValue;
 use layout::names::NAMES;
 pub use layout::summary::Summary;
+use layout::summary::{RECORDS, Table};
 pub use layout::value::Value;
-pub use model::answer::{Answer, OpenSlots, Outcome, Report, RowState, SlotState, Support};
+pub use model::answer::{OpenSlots, Outcome, Report, RowState, SlotState};
+pub use model::refusal::Refusal;
 pub use plan_check::check_plan;
 pub use plan_lay::first_plan;
-pub use plan_model::answer::PlanCheck;
-pub use plan_search::answer::{FirstPlan, PlanAnswer};
+pub use plan_search::answer::FirstPlan;
 pub use questions::{open_slots, row_bytes, row_state, slot_state, support};
 use summary_store::store_records;
+
+// The records, where there are any, are stored.
+fn store(table: &mut [Summary], records: Option<Table>)
+    requires { Storable records (length table.old) }
+    ensures { table.new ≡ stored records table.old }
+{
+    if let Some(records) = records {
+        store_records(table, records, RECORDS);
+    }
+}
 
 // Refused, and the value, the names, all buffers and the table are as they were; or accepted, and they are those of the board after the command, the table whatever it
 // held. A buffer that does not have its length (SCOPE 2), the marks among them, is refused 1 and a table that does not have 32 records 22; no byte at all is refused 3,
@@ -42,7 +56,7 @@ pub fn command(
 {
     let n = table.len();
     let done = command_core(value, names, bytes, rows, killers, slots, marks, n);
-    store_records(table, done.table, done.count);
+    store(table, done.table);
     done.outcome
 }
 
@@ -59,11 +73,11 @@ pub fn replay(
     table: &mut [Summary],
 ) -> Replayed
     ensures { ReplayPromise
-        (whole_of (marked_memory value names.old rows.old killers.old slots.old marks.old) table.old) file.now result.number result.ran
+        (whole_of (marked_memory value names.old rows.old killers.old slots.old marks.old) table.old) file.now (number_of result.ended) result.ran
         (whole_of (marked_memory result.value names.new rows.new killers.new slots.new marks.new) table.new) }
 {
     let n = table.len();
     let done = replay_core(value, names, file, rows, killers, slots, marks, n);
-    store_records(table, done.table, done.count);
+    store(table, done.table);
     done.replayed
 }

@@ -1,9 +1,8 @@
 -- KIND 1: what the functions that make a board promise.
-use Rattle.std.specs.Prelude.{◌≡◌, Bool, not, ◌&&◌, ◌||◌, cond, List, ℕ, ◌/◌, ◌%◌, ◌<◌, length, get_or, eqb, ltb}
+use Rattle.std.specs.Prelude.{◌≡◌, Bool, not, ◌&&◌, ◌||◌, cond, List, ℕ, ◌/◌, ◌%◌, ◌<◌, length, get_or, eqb, ltb, Err}
 use Rattle.layout.specs.declared.value.Value.{Value}
-use Rattle.model.specs.declared.answer.Answer.{Answer}
-use Rattle.model.specs.declared.answer.Answer.TheVariants as answer
-use Rattle.model.specs.Promise.{BoardMade}
+use Rattle.model.specs.declared.refusal.Refusal.{Refusal}
+use Rattle.model.specs.Promise.{Answer, BoardMade}
 use Rattle.layout.specs.Value.{fresh_heads, empty_draft}
 use Rattle.layout.specs.Memory.{State, Filled}
 use Rattle.layout.specs.Sizes.{killers_length, rows_length, slots_length}
@@ -36,5 +35,5 @@ bare_value counts =
 
 -- KIND 1 on any memory: made new by its counts alone, or refused, and then nothing is changed
 pub record MakesBoard (counts : List ℕ) (before : State) (given : Answer) (after : State) : Type 0 where
-  pub refused : (n : ℕ) → given ≡ answer.Refused n → after ≡ before
+  pub refused : (e : Refusal) → given ≡ Err e → after ≡ before
   pub made : BoardMade counts given after

@@ -1,11 +1,9 @@
 -- WHAT A CANCELLATION LEAVES, on any contents: killers and slots as the filter leaves them, rows and value as they were, and what is reported; and what kind 9 promises.
-use Rattle.std.specs.Prelude.{◌≡◌, List, ℕ, ◌%◌, min, get_or}
+use Rattle.std.specs.Prelude.{◌≡◌, List, ℕ, ◌%◌, min, get_or, Ok}
 use Rattle.model.specs.declared.answer.Report.{Report}
-use Rattle.model.specs.declared.answer.Answer.{Answer}
-use Rattle.model.specs.declared.answer.Answer.TheVariants as answer
 use Rattle.model.specs.declared.command.Command.TheVariants as kind
-use Rattle.model.specs.Promise.{KindPromise}
-use Rattle.filter_meaning.specs.Rules.{bytes_in}
+use Rattle.model.specs.Promise.{Answer, KindPromise}
+use Rattle.filter_propagate.specs.Rules.{rules_in}
 use Rattle.filter_cancel.specs.Done.{CancelDone}
 use Rattle.layout.specs.Memory.{State}
 
@@ -21,7 +19,7 @@ pub record CallCancelled (call : ℕ) (before : State) (given : Answer) (after :
       CancelDone
       (call % 32)
       (min (get_or before.value.heads.counts (call % 32) 0) 32)
-      (bytes_in before.value.heads before.rows)
+      (rules_in before.rows before.value.heads)
       before.killers
       after.killers
       before.slots
@@ -30,7 +28,7 @@ pub record CallCancelled (call : ℕ) (before : State) (given : Answer) (after :
       touched
   pub value_same : after.value ≡ before.value
   pub rows_same : after.rows ≡ before.rows
-  pub answer_is : given ≡ answer.Accepted (cancel_report reopened touched)
+  pub answer_is : given ≡ Ok (cancel_report reopened touched)
 
 -- THE PROMISE OF KIND 9: the counts that may stand beside a command are any, since it reads none of them
 abbrev pub CancelPromise : ℕ → State → Answer → State → Type 0

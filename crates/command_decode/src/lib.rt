@@ -3,15 +3,15 @@
 #![tactic(auto)]
 
 ghost use Rattle.std.specs.Prelude.{◌≡◌, true, ◌+◌, ◌≤◌, length};
-ghost use Rattle.model.specs.Commands.{is_kind, body_size, head_at, row_at, gap_at, command_at, counts_at, read_at};
+ghost use Rattle.model.specs.Commands.{is_kind, body_size, head_at, row_at, gap_at, command_at, counts_at, without, read_at};
 
 use model::command::{Command, Decoded, GapRule, Head, Read, Row};
-use model::refusal::{BODY_LENGTH, UNKNOWN_KIND};
+use model::refusal::Refusal;
 
 fn is_kind(k: u8) -> bool
     ensures { result ≡ is_kind k }
 {
-    1 <= k && k <= 9
+    matches!(k, 1..=9)
 }
 
 pub fn body_length(k: u8) -> usize
@@ -21,11 +21,8 @@ pub fn body_length(k: u8) -> usize
         1 => 32,
         2 => 6,
         3 => 4,
-        5 => 1,
         6 => 5,
-        7 => 1,
-        8 => 1,
-        9 => 1,
+        5 | 7..=9 => 1,
         _ => 0,
     }
 }
@@ -94,53 +91,43 @@ fn counts_at(s: &[u8], k: u8, b: usize) -> [u8; 32]
     requires { b + body_size k ≤ length s.now }
     ensures { result ≡ counts_at s.now k b }
 {
-    let mut counts = [0u8; 32];
-    if k != 1 {
-        return counts;
-    }
-    let mut i = 0;
-    while i < 32 {
-        counts[i] = s[b + i];
-        i += 1;
+    let mut counts = [0; 32];
+    if k == 1 {
+        counts.copy_from_slice(&s[b..b + 32]);
     }
     counts
+}
+
+// No command at a place: what is read there, and the place itself is the next.
+fn without(read: Read, at: usize) -> Decoded
+    ensures { result ≡ without read at }
+{
+    Decoded {
+        read,
+        counts: [0; 32],
+        next: at,
+    }
 }
 
 // What stands at a place of a file. A place past the end is the end.
 pub fn decode(s: &[u8], at: usize) -> Decoded
     ensures { result ≡ read_at s.now at }
 {
-    let no_counts = [0u8; 32];
-    if s.len() <= at {
-        return Decoded {
-            read: Read::End,
-            counts: no_counts,
-            next: at,
-        };
-    }
-    let k = s[at];
+    let Some(&k) = s.get(at) else {
+        return without(Read::End, at);
+    };
     if !is_kind(k) {
-        return Decoded {
-            read: Read::Refused(k, UNKNOWN_KIND),
-            counts: no_counts,
-            next: at,
-        };
+        return without(Read::Refused(k, Refusal::UnknownKind), at);
     }
     let b = at + 1;
     let n = body_length(k);
     // a difference, since b + n could wrap
     if s.len() - b < n {
-        return Decoded {
-            read: Read::Refused(k, BODY_LENGTH),
-            counts: no_counts,
-            next: at,
-        };
+        return without(Read::Refused(k, Refusal::BodyLength), at);
     }
-    let command = command_at(s, k, b);
-    let counts = counts_at(s, k, b);
     Decoded {
-        read: Read::Command(command),
-        counts,
+        read: Read::Command(command_at(s, k, b)),
+        counts: counts_at(s, k, b),
         next: b + n,
     }
 }

@@ -1,5 +1,5 @@
 -- THE DRAFTS that kinds 2 and 3 leave, and what every kind that only writes the draft promises.
-use Rattle.std.specs.Prelude.{◌≡◌, Bool, cond, List, ℕ, ◌+◌, ◌*◌, set, eqb, leb}
+use Rattle.std.specs.Prelude.{cond, List, ℕ, ◌+◌, ◌*◌, set, leb, Result, Ok, Err}
 use Rattle.layout.specs.declared.value.RuleData.{RuleData}
 use Rattle.layout.specs.declared.value.Draft.{Draft}
 use Rattle.layout.specs.declared.value.Value.{Value}
@@ -9,9 +9,8 @@ use Rattle.model.specs.declared.command.Row.{Row}
 use Rattle.model.specs.declared.command.Command.{Command}
 use Rattle.model.specs.declared.command.Command.TheVariants as kind
 use Rattle.model.specs.Commands.{scope_of}
-use Rattle.model.specs.Refusals.{first_of}
 use Rattle.model.specs.Promise.{KindPromise, refused_with, accepted_with}
-use Rattle.command_draft.specs.declared.redraft.Redrafted.{Redrafted}
+use Rattle.model.specs.declared.refusal.Refusal.{Refusal}
 use Rattle.layout.specs.Value.{empty_rule, with_draft}
 use Rattle.layout.specs.Memory.{state_of}
 
@@ -20,14 +19,10 @@ abbrev pub DraftPromise : Value → List ℕ → Command → Outcome → Type 0
 DraftPromise value slots c r =
     (rows killers ns : List ℕ) → KindPromise (state_of value rows killers slots) c ns r.answer (state_of r.value rows killers slots)
 
--- WHAT IS GIVEN BACK OF A DRAFT: the number of the first refusal that holds, or 0; and the new draft, or the old one where one holds
-pub record Redraws (checks : List (Bool × ℕ)) (old new : Draft) (r : Redrafted) : Type 0 where
-  pub number : r.number ≡ first_of checks
-  pub draft : r.draft ≡ cond (eqb r.number 0) new old
-
--- the outcome from it: refused with the value as it was, or accepted with 0, 0, 0 and the draft that is left
-abbrev pub draft_outcome : Value → Redrafted → Outcome
-draft_outcome value r = cond (eqb r.number 0) (accepted_with 0 0 0 (with_draft value r.draft)) (refused_with r.number value)
+-- the outcome from the new draft or the refusal: accepted with 0, 0, 0 and that draft, or refused with the value as it was
+abbrev pub draft_outcome : Value → Result Draft Refusal → Outcome
+draft_outcome value (Ok d) = accepted_with 0 0 0 (with_draft value d)
+draft_outcome value (Err e) = refused_with e value
 
 -- a head without rows
 abbrev pub draft_of : Head → Draft

@@ -1,5 +1,5 @@
-// The checks of fields that kinds 2 and 3 make, and kind 6 one of them: each looks at one condition of SCOPE 4.1, over the bytes, whatever they hold.
-ghost use Rattle.std.specs.Prelude.{◌≡◌, ◌≤◌, ◌<◌, length};
+// The checks of fields that kinds 2 and 3 make, and kind 6 some of them: each looks at one condition of SCOPE 4.1, over the bytes, whatever they hold.
+ghost use Rattle.std.specs.Prelude.{◌≡◌, ◌≤◌, ◌<◌};
 ghost use Rattle.model.specs.Ledger.{bad_spare?};
 ghost use Rattle.command_draft.specs.Fields.{off_board?, call_off_board?, call_cancelled?, call_before?, call_twice?, bad_arity?, slot_off?, slot_off_call?, same_row?, row_in_draft?};
 
@@ -14,96 +14,54 @@ pub fn off_board(counts: &[u8; 32], x: u8) -> bool
 
 // Refusal 9: one of n calls is not on the board.
 pub fn call_off_board(counts: &[u8; 32], scope: &[u8; 4], n: usize) -> bool
-    requires scope_len { length scope.now ≡ 4 }
-    requires n_bound { n ≤ 4 }
+    requires { n ≤ 4 }
     ensures { result ≡ call_off_board? counts.now scope.now n }
 {
-    let mut k = 0;
-    while k < n {
-        if off_board(counts, scope[k]) {
-            return true;
-        }
-        k += 1;
-    }
-    false
+    scope[..n].iter().any(|&x| off_board(counts, x))
 }
 
 // Refusal 29: one of n calls is cancelled.
 pub fn call_cancelled(slots: &[u8], scope: &[u8; 4], n: usize) -> bool
-    requires scope_len { length scope.now ≡ 4 }
-    requires n_bound { n ≤ 4 }
+    requires { n ≤ 4 }
     ensures { result ≡ call_cancelled? slots.now scope.now n }
 {
-    let mut k = 0;
-    while k < n {
-        if is_cancelled(slots, scope[k]) {
-            return true;
-        }
-        k += 1;
-    }
-    false
+    scope[..n].iter().any(|&x| is_cancelled(slots, x))
 }
 
 // Whether call k is one of those before it.
 fn call_before(scope: &[u8; 4], k: usize) -> bool
-    requires scope_len { length scope.now ≡ 4 }
-    requires k_bound { k < 4 }
+    requires { k < 4 }
     ensures { result ≡ call_before? scope.now k }
 {
-    let x = scope[k];
-    let mut j = 0;
-    while j < k {
-        if scope[j] == x {
-            return true;
-        }
-        j += 1;
-    }
-    false
+    scope[..k].contains(&scope[k])
 }
 
 // Refusal 10: one of n calls is there twice.
 pub fn call_twice(scope: &[u8; 4], n: usize) -> bool
-    requires scope_len { length scope.now ≡ 4 }
-    requires n_bound { n ≤ 4 }
+    requires { n ≤ 4 }
     ensures { result ≡ call_twice? scope.now n }
 {
-    let mut k = 0;
-    while k < n {
-        if call_before(scope, k) {
-            return true;
-        }
-        k += 1;
-    }
-    false
+    (0..n).any(|k| call_before(scope, k))
 }
 
 // Refusal 8: an arity that is not 1 to 4.
 pub fn bad_arity(n: u8) -> bool
     ensures { result ≡ bad_arity? n }
 {
-    n < 1 || 4 < n
+    !matches!(n, 1..=4)
 }
 
 // Refusal 11: one of four fields past the first n is not 255.
 pub fn bad_spare(fields: &[u8; 4], n: usize) -> bool
-    requires fields_len { length fields.now ≡ 4 }
-    requires n_bound { n ≤ 4 }
+    requires { n ≤ 4 }
     ensures { result ≡ bad_spare? n fields.now }
 {
-    let mut k = n;
-    while k < 4 {
-        if fields[k] != 255 {
-            return true;
-        }
-        k += 1;
-    }
-    false
+    fields[n..].iter().any(|&x| x != 255)
 }
 
 // Whether the slot in column k is not on the column's call.
 fn off_call(counts: &[u8; 32], scope: &[u8; 4], slots: &[u8; 4], k: usize) -> bool
-    requires slots_len { length slots.now ≡ 4 }
-    requires k_bound { k < 4 }
+    requires { k < 4 }
     ensures { result ≡ slot_off? counts.now scope.now slots.now k }
 {
     counts[(scope[k] % 32) as usize] <= slots[k]
@@ -111,50 +69,26 @@ fn off_call(counts: &[u8; 32], scope: &[u8; 4], slots: &[u8; 4], k: usize) -> bo
 
 // Refusal 14: the slot in one of n columns is not on the column's call.
 pub fn slot_off_call(counts: &[u8; 32], scope: &[u8; 4], slots: &[u8; 4], n: usize) -> bool
-    requires slots_len { length slots.now ≡ 4 }
-    requires n_bound { n ≤ 4 }
+    requires { n ≤ 4 }
     ensures { result ≡ slot_off_call? counts.now scope.now slots.now n }
 {
-    let mut k = 0;
-    while k < n {
-        if off_call(counts, scope, slots, k) {
-            return true;
-        }
-        k += 1;
-    }
-    false
+    (0..n).any(|k| off_call(counts, scope, slots, k))
 }
 
 // Whether row v has these slots in n columns.
 fn same_row(rows: &[u8; 256], slots: &[u8; 4], n: usize, v: usize) -> bool
-    requires slots_len { length slots.now ≡ 4 }
     requires n_bound { n ≤ 4 }
     requires v_bound { v < 64 }
     ensures { result ≡ same_row? rows.now slots.now n v }
 {
-    let mut column = 0;
-    while column < n {
-        if rows[4 * v + column] != slots[column] {
-            return false;
-        }
-        column += 1;
-    }
-    true
+    rows[4 * v..4 * v + n] == slots[..n]
 }
 
 // Refusal 15: one of m rows has these slots in n columns.
 pub fn row_in_draft(rows: &[u8; 256], slots: &[u8; 4], n: usize, m: usize) -> bool
-    requires slots_len { length slots.now ≡ 4 }
     requires n_bound { n ≤ 4 }
     requires m_bound { m ≤ 64 }
     ensures { result ≡ row_in_draft? rows.now slots.now n m }
 {
-    let mut v = 0;
-    while v < m {
-        if same_row(rows, slots, n, v) {
-            return true;
-        }
-        v += 1;
-    }
-    false
+    (0..m).any(|v| same_row(rows, slots, n, v))
 }

@@ -1,35 +1,30 @@
 // Kind 2: starts a draft, in the place of any other.
 ghost use Rattle.std.specs.Prelude.{◌≡◌};
 ghost use Rattle.command_draft.specs.Fields.{head_checks};
-ghost use Rattle.command_draft.specs.Drafts.{draft_of, Redraws, StartsDraft};
-ghost use Rattle.model.specs.Refusals.{first_of};
+ghost use Rattle.command_draft.specs.Drafts.{draft_of, StartsDraft};
+ghost use Rattle.model.specs.Refusals.{first_of, number_of, AnsweredBy};
 
 use crate::fields;
-use crate::redraft::{Redrafted, outcome_of};
+use crate::redraft::outcome_of;
 use layout::places::cap;
 use layout::value::{Draft, RuleData, Value};
 use model::answer::Outcome;
 use model::command::Head;
-use model::refusal::{
-    BAD_ARITY, BAD_NUMBER, CALL_OFF_BOARD, CALL_TWICE, CANCELLED_CALL, NO_BOARD, SPARE_FIELD,
-    or_refuse,
-};
+use model::refusal::Refusal;
 
-// The number of the refusal, or 0 for none, in the order of SCOPE 4.3. Every check is made, so the columns are capped.
-fn check_head(counts: &[u8; 32], slots: &[u8], head: Head) -> u8
-    ensures { result ≡ first_of (head_checks counts.now slots.now head) }
+// The first refusal that holds, in the order of SCOPE 4.3.
+fn check_head(counts: &[u8; 32], slots: &[u8], head: Head) -> Result<(), Refusal>
+    ensures { number_of result ≡ first_of (head_checks counts.now slots.now head) }
 {
     let scope = [head.call0, head.call1, head.call2, head.call3];
     let columns = cap(head.arity, 4);
-    let n = or_refuse(0, counts[0] == 0, NO_BOARD);
-    let n = or_refuse(n, 63 < head.number, BAD_NUMBER);
-    let n = or_refuse(n, fields::bad_arity(head.arity), BAD_ARITY);
-    let off_board = fields::call_off_board(counts, &scope, columns);
-    let n = or_refuse(n, off_board, CALL_OFF_BOARD);
-    let cancelled = fields::call_cancelled(slots, &scope, columns);
-    let n = or_refuse(n, cancelled, CANCELLED_CALL);
-    let n = or_refuse(n, fields::call_twice(&scope, columns), CALL_TWICE);
-    or_refuse(n, fields::bad_spare(&scope, columns), SPARE_FIELD)
+    Refusal::NoBoard.when(counts[0] == 0)?;
+    Refusal::BadNumber.when(63 < head.number)?;
+    Refusal::BadArity.when(fields::bad_arity(head.arity))?;
+    Refusal::CallOffBoard.when(fields::call_off_board(counts, &scope, columns))?;
+    Refusal::CancelledCall.when(fields::call_cancelled(slots, &scope, columns))?;
+    Refusal::CallTwice.when(fields::call_twice(&scope, columns))?;
+    Refusal::SpareField.when(fields::bad_spare(&scope, columns))
 }
 
 // The head without rows.
@@ -47,25 +42,19 @@ fn draft_of(head: Head) -> Draft
     }
 }
 
-// The draft of the head in the place of the one given, which stays where the head is refused.
-pub fn redraft(counts: &[u8; 32], slots: &[u8], draft: Draft, head: Head) -> Redrafted
-    ensures { Redraws (head_checks counts.now slots.now head) draft (draft_of head) result }
+// The draft of the head.
+pub fn redraft(counts: &[u8; 32], slots: &[u8], head: Head) -> Result<Draft, Refusal>
+    ensures { AnsweredBy (first_of (head_checks counts.now slots.now head)) (draft_of head) result }
 {
-    let number = check_head(counts, slots, head);
-    if number != 0 {
-        return Redrafted { number, draft };
-    }
-    let draft = draft_of(head);
-    Redrafted { number, draft }
+    check_head(counts, slots, head)?;
+    Ok(draft_of(head))
 }
 
+// In a frame of its own, for the stack.
 #[inline(never)]
 pub fn start_draft(value: Value, head: Head, slots: &[u8]) -> Outcome
     ensures { StartsDraft value slots.now head result }
 {
-    let heads = value.heads;
-    let counts = heads.counts;
-    let draft = value.draft;
-    let next = redraft(&counts, slots, draft, head);
+    let next = redraft(&value.heads.counts, slots, head);
     outcome_of(value, next)
 }

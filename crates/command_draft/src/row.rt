@@ -1,93 +1,62 @@
 // Kind 3: adds a row to the draft.
 ghost use Rattle.std.specs.Prelude.{◌≡◌};
 ghost use Rattle.command_draft.specs.Fields.{add_row_checks};
-ghost use Rattle.command_draft.specs.Drafts.{Redraws, with_row, AddsRow};
-ghost use Rattle.model.specs.Refusals.{first_of};
+ghost use Rattle.command_draft.specs.Drafts.{with_row, AddsRow};
+ghost use Rattle.model.specs.Refusals.{first_of, number_of, AnsweredBy};
 
 use crate::fields;
-use crate::redraft::{Redrafted, outcome_of};
+use crate::redraft::outcome_of;
 use layout::places::cap;
 use layout::value::{Draft, RuleData, Value};
 use model::answer::Outcome;
 use model::command::Row;
-use model::refusal::{
-    DRAFT_FULL, NO_BOARD, NO_DRAFT, ROW_TWICE, SLOT_OFF_CALL, SPARE_FIELD, or_refuse,
-};
+use model::refusal::Refusal;
 
-// The number of the refusal, or 0 for none, in the order of SCOPE 4.3. Every check is made, so columns and rows are capped.
-fn check_row(counts: &[u8; 32], rule: RuleData, row: Row) -> u8
-    ensures { result ≡ first_of (add_row_checks counts.now rule row) }
+// The first refusal that holds, in the order of SCOPE 4.3.
+fn check_row(counts: &[u8; 32], rule: &RuleData, row: Row) -> Result<(), Refusal>
+    ensures { number_of result ≡ first_of (add_row_checks counts.now rule.now row) }
 {
-    let scope = rule.scope;
-    let rows = rule.rows;
     let slots = [row.slot0, row.slot1, row.slot2, row.slot3];
     let columns = cap(rule.arity, 4);
     let length = cap(rule.length, 64);
-    let n = or_refuse(0, counts[0] == 0, NO_BOARD);
-    let n = or_refuse(n, rule.arity == 0, NO_DRAFT);
-    let n = or_refuse(n, 64 <= rule.length, DRAFT_FULL);
-    let off_call = fields::slot_off_call(counts, &scope, &slots, columns);
-    let n = or_refuse(n, off_call, SLOT_OFF_CALL);
-    let n = or_refuse(n, fields::bad_spare(&slots, columns), SPARE_FIELD);
-    let twice = fields::row_in_draft(&rows, &slots, columns, length);
-    or_refuse(n, twice, ROW_TWICE)
+    Refusal::NoBoard.when(counts[0] == 0)?;
+    Refusal::NoDraft.when(rule.arity == 0)?;
+    Refusal::DraftFull.when(64 <= rule.length)?;
+    Refusal::SlotOffCall.when(fields::slot_off_call(counts, &rule.scope, &slots, columns))?;
+    Refusal::SpareField.when(fields::bad_spare(&slots, columns))?;
+    Refusal::RowTwice.when(fields::row_in_draft(&rule.rows, &slots, columns, length))
 }
 
-// The draft with one row more. A draft of 64 rows, which the check refuses, stays as it is.
-fn with_row(draft: Draft, row: Row) -> Draft
-    ensures { result ≡ with_row draft row }
+// Adds one row to the draft. A draft of 64 rows, which the check refuses, stays as it is.
+pub fn push_row(draft: &mut Draft, row: Row)
+    ensures { draft.new ≡ with_row draft.old row }
 {
-    let mut rule = draft.rule;
-    let n = rule.length;
-    if 63 < n {
-        return draft;
+    let rule = &mut draft.rule;
+    if 63 < rule.length {
+        return;
     }
-    let at = 4 * (n as usize);
+    let at = 4 * usize::from(rule.length);
     rule.rows[at] = row.slot0;
     rule.rows[at + 1] = row.slot1;
     rule.rows[at + 2] = row.slot2;
     rule.rows[at + 3] = row.slot3;
-    rule.length = n + 1;
-    let number = draft.number;
-    Draft { number, rule }
+    rule.length += 1;
 }
 
-// Adds one row to a draft that is lent.
-pub fn push_row(draft: &mut Draft, row: Row)
-    ensures { draft.new ≡ with_row draft.old row }
+// The draft with the row.
+pub fn redraft(counts: &[u8; 32], mut draft: Draft, row: Row) -> Result<Draft, Refusal>
+    ensures { AnsweredBy (first_of (add_row_checks counts.now draft.rule row)) (with_row draft row) result }
 {
-    let next = with_row(*draft, row);
-    *draft = next;
+    check_row(counts, &draft.rule, row)?;
+    push_row(&mut draft, row);
+    Ok(draft)
 }
 
-// The draft that push_row leaves of a copy: whoever calls this one handles no reference.
-fn pushed(draft: Draft, row: Row) -> Draft
-    ensures { result ≡ with_row draft row }
-{
-    let mut copy = draft;
-    push_row(&mut copy, row);
-    copy
-}
-
-// The draft with the row, or as it is where the row is refused.
-pub fn redraft(counts: &[u8; 32], draft: Draft, row: Row) -> Redrafted
-    ensures { Redraws (add_row_checks counts.now draft.rule row) draft (with_row draft row) result }
-{
-    let number = check_row(counts, draft.rule, row);
-    if number != 0 {
-        return Redrafted { number, draft };
-    }
-    let draft = pushed(draft, row);
-    Redrafted { number, draft }
-}
-
+// In a frame of its own, for the stack.
 #[inline(never)]
 pub fn add_row(value: Value, row: Row) -> Outcome
     ensures { AddsRow value row result }
 {
-    let heads = value.heads;
-    let counts = heads.counts;
-    let draft = value.draft;
-    let next = redraft(&counts, draft, row);
+    let next = redraft(&value.heads.counts, value.draft, row);
     outcome_of(value, next)
 }

@@ -1,22 +1,21 @@
 -- A FILE OF COMMANDS IS REPLAYED (SCOPE 6.17): its commands, how it ends, and what is promised of them.
-use Rattle.std.specs.Prelude.{◌≡◌, Bool, true, List, [], ◌∷◌, ◌++◌, map, ℕ, zero, suc, ◌+◌, ◌-◌, ◌≤◌, ◌<◌, length, take, drop, ltb}
+use Rattle.std.specs.Prelude.{◌≡◌, Bool, true, List, [], ◌∷◌, ◌++◌, map, ℕ, zero, suc, ◌+◌, ◌-◌, ◌≤◌, ◌<◌, length, take, drop, ltb, Result, Err, None}
 use Rattle.model.specs.declared.command.Read.{Read}
 use Rattle.model.specs.declared.command.Read.TheVariants as found
 use Rattle.model.specs.Commands.{read_at}
 use Rattle.model.specs.Sheet.{input_most}
-use Rattle.model.specs.Refusals.{first_of}
+use Rattle.model.specs.Refusals.{number, first_of, number_of}
 use Rattle.model.specs.Numbers as refused
 use Rattle.layout.specs.declared.value.Value.{Value}
 use Rattle.layout.specs.declared.summary.Summary.{Summary}
-use Rattle.layout.specs.Summary.{no_table}
 use Rattle.layout.specs.Memory.{MarkedState, Whole, whole_of, lent_with, fresh_marked_state, fresh_whole, Filled}
-use Rattle.layout.specs.Sizes.{CommandLent, killers_length, rows_length, slots_length, records_length}
+use Rattle.layout.specs.Sizes.{CommandLent, killers_length, rows_length, slots_length}
 use Rattle.command_file.specs.declared.Position.{Position}
 use Rattle.command_file.specs.declared.ReplayDone.{ReplayDone}
-use Rattle.model.specs.declared.answer.Answer.{Answer}
+use Rattle.model.specs.declared.refusal.Refusal.{Refusal}
 use Rattle.model.specs.Ledger.{lent_conditions, lengths, member}
 use Rattle.model.specs.Lists.{After}
-use Rattle.model.specs.Promise.{MemoryPromise}
+use Rattle.model.specs.Promise.{Answer, MemoryPromise}
 
 -- the bytes from a place up to another
 abbrev pub part_of : List ℕ → ℕ → ℕ → List ℕ
@@ -25,7 +24,7 @@ part_of s at following = take (following - at) (drop at s)
 -- THE COMMANDS OF A FILE, each as its bytes: from a place on, at most so many, to the file's end or the first 3 or 4
 abbrev pub commands_by : Read → List ℕ → List (List ℕ) → List (List ℕ)
 commands_by (found.Command c) bytes rest = bytes ∷ rest
-commands_by (found.Refused k n) bytes rest = []
+commands_by (found.Refused k e) bytes rest = []
 commands_by found.End bytes rest = []
 
 abbrev pub commands_from : ℕ → List ℕ → ℕ → List (List ℕ)
@@ -38,7 +37,7 @@ file_commands s = commands_from (length s) s 0
 -- HOW A FILE ENDS: under 3 or 4 where one of them is met, else under 0
 abbrev pub end_by : Read → ℕ → ℕ
 end_by (found.Command c) rest = rest
-end_by (found.Refused k n) rest = n
+end_by (found.Refused k e) rest = number e
 end_by found.End rest = 0
 
 abbrev pub end_from : ℕ → List ℕ → ℕ → ℕ
@@ -83,7 +82,7 @@ pub record IsFresh (marks : List ℕ) (m : MarkedState) : Type 0 where
 pub record CommandTaken (following : ℕ) (file : List ℕ) (p : Position) (before : MarkedState) (q : Position) (after : MarkedState) : Type 0 where
   pub place : q.at ≡ following
   pub count : q.ran ≡ p.ran + 1
-  pub end : q.number ≡ 0
+  pub end : number_of q.ended ≡ 0
   pub given : Answer
   pub promise : MemoryPromise lengths before (part_of file p.at following) given after
 
@@ -91,15 +90,15 @@ pub record CommandTaken (following : ℕ) (file : List ℕ) (p : Position) (befo
 pub record FileEnded (n : ℕ) (file : List ℕ) (p : Position) (before : MarkedState) (q : Position) (after : MarkedState) : Type 0 where
   pub place : q.at ≡ length file
   pub count : q.ran ≡ p.ran
-  pub end : q.number ≡ n
+  pub end : number_of q.ended ≡ n
   pub same : after ≡ before
 
-abbrev pub ended_at : Position → ℕ → ℕ → Position
-ended_at p end n = record { value = p.value; at = end; ran = p.ran; number = n }
+abbrev pub ended_at : Position → ℕ → Result (Unit {0}) Refusal → Position
+ended_at p end ended = record { value = p.value; at = end; ran = p.ran; ended = ended }
 
 abbrev pub TakenBy : Read → ℕ → List ℕ → Position → MarkedState → Position → MarkedState → Type 0
 TakenBy (found.Command c) following file p before q after = CommandTaken following file p before q after
-TakenBy (found.Refused k n) following file p before q after = FileEnded n file p before q after
+TakenBy (found.Refused k e) following file p before q after = FileEnded (number e) file p before q after
 TakenBy found.End following file p before q after = FileEnded 0 file p before q after
 
 pub record Taken (file : List ℕ) (p : Position) (before : MarkedState) (q : Position) (after : MarkedState) : Type 0 where
@@ -123,7 +122,7 @@ pub record TakenTo (first file : List ℕ) (p : Position) (m : MarkedState) : Ty
   pub enough : length file ≤ p.at + most
   pub all : taken ++ commands_from most file p.at ≡ file_commands file
   pub going : p.at < length file → end_from most file p.at ≡ file_end file
-  pub over : length file ≤ p.at → p.number ≡ file_end file
+  pub over : length file ≤ p.at → number_of p.ended ≡ file_end file
 
 -- AFTER THE LAST: what was run is the file's commands, and the number is how it ends
 pub record FileTaken (first file : List ℕ) (number ran : ℕ) (m : MarkedState) : Type 0 where
@@ -132,13 +131,12 @@ pub record FileTaken (first file : List ℕ) (number ran : ℕ) (m : MarkedState
   pub count : ran ≡ length (file_commands file)
   pub end : number ≡ file_end file
 
--- and with the records that were counted then, all of which are to be stored
-pub record FileCounted (first file : List ℕ) (number ran records : ℕ) (w : Whole) : Type 0 where
+-- and with the records that were counted then
+pub record FileCounted (first file : List ℕ) (number ran : ℕ) (w : Whole) : Type 0 where
   pub stands : After first (map member (file_commands file)) w
   pub count : ran ≡ length (file_commands file)
   pub end : number ≡ file_end file
-  pub all : records ≡ records_length
 
 -- a file that is refused: nothing was run, and nothing is to be stored
-abbrev pub none_replayed : ℕ → Value → ReplayDone
-none_replayed n value = record { replayed = record { value = value; ran = 0; number = n }; count = 0; table = no_table }
+abbrev pub none_replayed : Refusal → Value → ReplayDone
+none_replayed e value = record { replayed = record { value = value; ran = 0; ended = Err e }; table = None }

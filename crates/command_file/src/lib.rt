@@ -4,21 +4,20 @@
 // the file is refused and nothing is changed. Assumed: nothing.
 #![tactic(auto)]
 
-ghost use Rattle.std.specs.Prelude.{◌≡◌, length};
-ghost use Rattle.layout.specs.Bounds.{Sizes};
+ghost use Rattle.std.specs.Prelude.{◌≡◌};
 ghost use Rattle.layout.specs.Memory.{marked_memory, whole_of};
-ghost use Rattle.layout.specs.Sizes.{marks_length};
+ghost use Rattle.model.specs.Refusals.{number_of};
 ghost use Rattle.command_run.specs.Store.{Stores};
 ghost use Rattle.command_file.specs.Replay.{FreshBuffers, ReplayPromise, IsFresh, InFile, ended_at, Taken, FileTaken, FileCounted, none_replayed};
 
+use command_decode::decode;
 use command_run::obey_bytes;
-use layout::fill::fill;
-use layout::marks::bad_buffers;
+use layout::marks::MARKS;
 use layout::names::{NAMES, forget};
 use layout::summary::{RECORDS, Table};
-use layout::value::Value;
+use layout::value::{KILLERS, ROWS, SLOTS, Value};
 use model::command::Read;
-use model::refusal::{BUFFER_LENGTH, FILE_LENGTH, TABLE_LENGTH};
+use model::refusal::Refusal;
 use summary_counts::records::table_of;
 
 // The longest file that is read.
@@ -30,8 +29,8 @@ pub struct Replayed {
     pub value: Value,
     // so many commands were run, those among them that were refused
     pub ran: usize,
-    // 1, 22 or 2 where nothing was run; else 3 or 4 where the file ended so, and 0 where all of it was read
-    pub number: u8,
+    // refused 1, 22 or 2 where nothing was run; else 3 or 4 where the file ended so
+    pub ended: Result<(), Refusal>,
 }
 
 // How far the file has been taken.
@@ -41,78 +40,62 @@ pub struct Position {
     // the place to read at next
     pub at: usize,
     pub ran: usize,
-    // how the file ended, once it has
-    pub number: u8,
+    // refused where the file ended by 3 or 4
+    pub ended: Result<(), Refusal>,
 }
 
-// What is left of a file, and the first so many records to be stored, none or all.
+// What is left of a file, and the records that are to be stored, where there are any.
 #[derive(Clone, Copy)]
 pub struct ReplayDone {
     pub replayed: Replayed,
-    pub count: usize,
-    pub table: Table,
+    pub table: Option<Table>,
 }
 
 // Every byte of the three buffers, whatever they held.
-fn fill_fresh(rows: &mut [u8], killers: &mut [u8], slots: &mut [u8])
-    requires { Sizes rows.old killers.old slots.old }
+fn fill_fresh(rows: &mut [u8; ROWS], killers: &mut [u8; KILLERS], slots: &mut [u8; SLOTS])
     ensures { FreshBuffers rows.new killers.new slots.new }
 {
-    fill(rows, 255);
-    fill(killers, 255);
-    fill(slots, 254);
+    rows.fill(255);
+    killers.fill(255);
+    slots.fill(254);
 }
 
-// The file ends under a number: nothing more of it is read.
-fn end_at(position: Position, end: usize, number: u8) -> Position
-    ensures { result ≡ ended_at position end number }
+// The file has ended: nothing more of it is read.
+fn end_at(position: &mut Position, end: usize, ended: Result<(), Refusal>)
+    ensures { position.new ≡ ended_at position.old end ended }
 {
-    let value = position.value;
-    Position {
-        value,
-        at: end,
-        ran: position.ran,
-        number,
-    }
+    position.at = end;
+    position.ended = ended;
 }
 
 // What stands at the place: a command is run, and anything else ends the file.
 fn take_next(
-    position: Position,
+    position: &mut Position,
     names: &mut [u8; NAMES],
     file: &[u8],
-    rows: &mut [u8],
-    killers: &mut [u8],
-    slots: &mut [u8],
-    marks: &mut [u8],
-) -> Position
-    requires sizes { Sizes rows.old killers.old slots.old }
-    requires marks_len { length marks.old ≡ marks_length }
-    requires in_file { InFile file.now position }
+    rows: &mut [u8; ROWS],
+    killers: &mut [u8; KILLERS],
+    slots: &mut [u8; SLOTS],
+    marks: &mut [u8; MARKS],
+)
+    requires { InFile file.now position.old }
     ensures { Taken
-        file.now position (marked_memory position.value names.old rows.old killers.old slots.old marks.old) result
-        (marked_memory result.value names.new rows.new killers.new slots.new marks.new) }
+        file.now position.old (marked_memory position.old.value names.old rows.old killers.old slots.old marks.old) position.new
+        (marked_memory position.new.value names.new rows.new killers.new slots.new marks.new) }
 {
-    let value = position.value;
-    let at = position.at;
-    let ran = position.ran;
-    let decoded = command_decode::decode(file, at);
-    let read = decoded.read;
+    let decoded = decode(file, position.at);
     let next = decoded.next;
-    let end = file.len();
-    match read {
+    match decoded.read {
         Read::Command(_) => {
-            let outcome = obey_bytes(value, names, &file[at..next], rows, killers, slots, marks);
-            let left = outcome.value;
-            Position {
-                value: left,
-                at: next,
-                ran: ran + 1,
-                number: 0,
-            }
+            let bytes = &file[position.at..next];
+            let outcome = obey_bytes(position.value, names, bytes, rows, killers, slots, marks);
+            position.value = outcome.value;
+            position.at = next;
+            position.ran += 1;
+            position.ended = Ok(());
         }
-        Read::Refused(_, number) => end_at(position, end, number),
-        Read::End => end_at(position, end, 0),
+        Read::Refused(_, refusal) => end_at(position, file.len(), Err(refusal)),
+        Read::End => end_at(position, file.len(), Ok(())),
     }
 }
 
@@ -121,74 +104,96 @@ fn take_all(
     value: Value,
     names: &mut [u8; NAMES],
     file: &[u8],
-    rows: &mut [u8],
-    killers: &mut [u8],
-    slots: &mut [u8],
-    marks: &mut [u8],
+    rows: &mut [u8; ROWS],
+    killers: &mut [u8; KILLERS],
+    slots: &mut [u8; SLOTS],
+    marks: &mut [u8; MARKS],
 ) -> Replayed
-    requires sizes { Sizes rows.old killers.old slots.old }
-    requires marks_len { length marks.old ≡ marks_length }
-    requires fresh { IsFresh marks.old (marked_memory value names.old rows.old killers.old slots.old marks.old) }
+    requires { IsFresh marks.old (marked_memory value names.old rows.old killers.old slots.old marks.old) }
     ensures { FileTaken
-        marks.old file.now result.number result.ran (marked_memory result.value names.new rows.new killers.new slots.new marks.new) }
+        marks.old file.now (number_of result.ended) result.ran (marked_memory result.value names.new rows.new killers.new slots.new marks.new) }
 {
     let mut position = Position {
         value,
         at: 0,
         ran: 0,
-        number: 0,
+        ended: Ok(()),
     };
     while position.at < file.len() {
-        position = take_next(position, names, file, rows, killers, slots, marks);
+        take_next(&mut position, names, file, rows, killers, slots, marks);
     }
-    let left = position.value;
-    Replayed {
-        value: left,
-        ran: position.ran,
-        number: position.number,
-    }
+    let Position {
+        value,
+        ran,
+        ended,
+        ..
+    } = position;
+    Replayed { value, ran, ended }
 }
 
 // The board is made fresh, whatever the memory held, the file's commands are run on it, and the records are counted.
 fn run_file(
     names: &mut [u8; NAMES],
     file: &[u8],
-    rows: &mut [u8],
-    killers: &mut [u8],
-    slots: &mut [u8],
-    marks: &mut [u8],
-) -> ReplayDone
-    requires sizes { Sizes rows.old killers.old slots.old }
-    requires marks_len { length marks.old ≡ marks_length }
+    rows: &mut [u8; ROWS],
+    killers: &mut [u8; KILLERS],
+    slots: &mut [u8; SLOTS],
+    marks: &mut [u8; MARKS],
+) -> (Replayed, Table)
     ensures { FileCounted
-        marks.old file.now result.replayed.number result.replayed.ran result.count
-        (whole_of (marked_memory result.replayed.value names.new rows.new killers.new slots.new marks.new) result.table.records) }
+        marks.old file.now (number_of result.0.ended) result.0.ran
+        (whole_of (marked_memory result.0.value names.new rows.new killers.new slots.new marks.new) result.1.records) }
 {
     fill_fresh(rows, killers, slots);
     forget(names);
     let replayed = take_all(Value::fresh(), names, file, rows, killers, slots, marks);
-    let value = replayed.value;
-    let heads = value.heads;
-    let table = table_of(heads, slots);
-    ReplayDone {
-        replayed,
-        count: RECORDS,
-        table,
-    }
+    let table = table_of(&replayed.value.heads, slots);
+    (replayed, table)
 }
 
-// A file that is refused under the number n: nothing was run, and nothing is to be stored.
-fn refused(n: u8, value: Value) -> ReplayDone
-    ensures { result ≡ none_replayed n value }
+// A file that is refused: nothing was run, and nothing is to be stored.
+// In a frame of its own, for the stack.
+#[inline(never)]
+fn refused(refusal: Refusal, value: Value) -> ReplayDone
+    ensures { result ≡ none_replayed refusal value }
 {
     ReplayDone {
         replayed: Replayed {
             value,
             ran: 0,
-            number: n,
+            ended: Err(refusal),
         },
-        count: 0,
-        table: Table::empty(),
+        table: None,
+    }
+}
+
+// The file on buffers of the right lengths, with a table of n records.
+fn replay_buffers(
+    value: Value,
+    names: &mut [u8; NAMES],
+    file: &[u8],
+    rows: &mut [u8; ROWS],
+    killers: &mut [u8; KILLERS],
+    slots: &mut [u8; SLOTS],
+    marks: &mut [u8; MARKS],
+    n: usize,
+) -> ReplayDone
+    ensures { Stores
+        (λ old new. ReplayPromise
+        (whole_of (marked_memory value names.old rows.old killers.old slots.old marks.old) old) file.now (number_of result.replayed.ended) result.replayed.ran
+        (whole_of (marked_memory result.replayed.value names.new rows.new killers.new slots.new marks.new) new))
+        n result.table }
+{
+    if n != RECORDS {
+        return refused(Refusal::TableLength, value);
+    }
+    if FILE < file.len() {
+        return refused(Refusal::FileLength, value);
+    }
+    let (replayed, table) = run_file(names, file, rows, killers, slots, marks);
+    ReplayDone {
+        replayed,
+        table: Some(table),
     }
 }
 
@@ -205,18 +210,21 @@ pub fn replay_core(
 ) -> ReplayDone
     ensures { Stores
         (λ old new. ReplayPromise
-        (whole_of (marked_memory value names.old rows.old killers.old slots.old marks.old) old) file.now result.replayed.number result.replayed.ran
+        (whole_of (marked_memory value names.old rows.old killers.old slots.old marks.old) old) file.now (number_of result.replayed.ended) result.replayed.ran
         (whole_of (marked_memory result.replayed.value names.new rows.new killers.new slots.new marks.new) new))
-        n result.count result.table.records }
+        n result.table }
 {
-    if bad_buffers(rows, killers, slots, marks) {
-        return refused(BUFFER_LENGTH, value);
-    }
-    if n != RECORDS {
-        return refused(TABLE_LENGTH, value);
-    }
-    if FILE < file.len() {
-        return refused(FILE_LENGTH, value);
-    }
-    run_file(names, file, rows, killers, slots, marks)
+    let Some(rows) = rows.as_mut_array::<ROWS>() else {
+        return refused(Refusal::BufferLength, value);
+    };
+    let Some(killers) = killers.as_mut_array::<KILLERS>() else {
+        return refused(Refusal::BufferLength, value);
+    };
+    let Some(slots) = slots.as_mut_array::<SLOTS>() else {
+        return refused(Refusal::BufferLength, value);
+    };
+    let Some(marks) = marks.as_mut_array::<MARKS>() else {
+        return refused(Refusal::BufferLength, value);
+    };
+    replay_buffers(value, names, file, rows, killers, slots, marks, n)
 }

@@ -1,7 +1,7 @@
 // The draft of a gap rule: its two calls, with the pairs that fit as rows.
 ghost use Rattle.command_gap.specs.Draft.{DraftOfGap};
 
-use crate::pairs::{Test, list_pairs};
+use crate::pairs::{Pairs, Test, list_pairs};
 use layout::value::{Draft, RuleData};
 use model::command::GapRule;
 
@@ -19,11 +19,9 @@ pub fn draft_of(counts: &[u8; 32], f: GapRule) -> GapDraft
     let test = Test {
         form: f.form,
         gap: f.gap,
-        seconds: counts[(f.second % 32) as usize],
+        seconds: counts[usize::from(f.second % 32)],
     };
-    let pairs = list_pairs(test, counts[(f.first % 32) as usize]);
-    let rows = pairs.rows;
-    let count = pairs.count;
+    let Pairs { rows, count } = list_pairs(test, counts[usize::from(f.first % 32)]);
     GapDraft {
         draft: Draft {
             number: f.number,

@@ -6,17 +6,15 @@ ghost use Rattle.model.specs.Gaps.{fits?};
 fn at_most(a: u8, gap: u8, b: u8) -> bool
     ensures { result ≡ leb (a + gap) b }
 {
-    a as u32 + gap as u32 <= b as u32
+    u32::from(a) + u32::from(gap) <= u32::from(b)
 }
 
 pub fn fits(form: u8, gap: u8, a: u8, b: u8) -> bool
     ensures { result ≡ fits? form gap a b }
 {
-    if form == 1 {
-        return at_most(a, gap, b);
+    match form {
+        1 => at_most(a, gap, b),
+        2 => at_most(a, gap, b) || at_most(b, gap, a),
+        _ => a == b,
     }
-    if form == 2 {
-        return at_most(a, gap, b) || at_most(b, gap, a);
-    }
-    a == b
 }

@@ -5,38 +5,29 @@ ghost use Rattle.model.specs.declared.command.Command.TheVariants as kind;
 
 use crate::checks::check_fields;
 use crate::draft::draft_of;
-use command_draft::redraft::{Redrafted, outcome_of};
+use command_draft::redraft::outcome_of;
 use layout::value::{Draft, Value};
 use model::answer::Outcome;
 use model::command::GapRule;
-use model::refusal::TOO_MANY_PAIRS;
+use model::refusal::Refusal;
 
-// The draft of the rule in the place of the one given, which stays where the rule is refused.
-pub fn redraft(counts: &[u8; 32], slots: &[u8], draft: Draft, f: GapRule) -> Redrafted
-    ensures { RedrawsGap counts.now slots.now f draft result }
+// The draft of the rule.
+pub fn redraft(counts: &[u8; 32], slots: &[u8], f: GapRule) -> Result<Draft, Refusal>
+    ensures { RedrawsGap counts.now slots.now f result }
 {
-    let number = check_fields(counts, slots, f);
-    if number != 0 {
-        return Redrafted { number, draft };
-    }
+    check_fields(counts, slots, f)?;
     let made = draft_of(counts, f);
-    let new = made.draft;
     if 64 < made.count {
-        return Redrafted {
-            number: TOO_MANY_PAIRS,
-            draft,
-        };
+        return Err(Refusal::TooManyPairs);
     }
-    Redrafted { number, draft: new }
+    Ok(made.draft)
 }
 
+// In a frame of its own, for the stack.
 #[inline(never)]
 pub fn draft_gap(value: Value, f: GapRule, slots: &[u8]) -> Outcome
     ensures { DraftPromise value slots.now (kind.Gap f) result }
 {
-    let heads = value.heads;
-    let counts = heads.counts;
-    let draft = value.draft;
-    let next = redraft(&counts, slots, draft, f);
+    let next = redraft(&value.heads.counts, slots, f);
     outcome_of(value, next)
 }

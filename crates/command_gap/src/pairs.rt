@@ -1,5 +1,5 @@
 // The pairs of slots that fit a form, listed as the rows of a draft: in one pass over all pairs, in rising order. All of them are counted, and the first 64 written.
-ghost use Rattle.std.specs.Prelude.{◌+◌, ◌<◌, min, ◌≡◌, length};
+ghost use Rattle.std.specs.Prelude.{◌+◌, ◌<◌, min, ◌≡◌};
 ghost use Rattle.model.specs.Gaps.{pair_test, rows_of_gap};
 ghost use Rattle.command_gap.specs.Pairs.{Listed, ListedTo, with_pair};
 
@@ -31,7 +31,6 @@ fn passes(test: Test, a: u8, b: u8) -> bool
 
 // The pair is row w, if there is room for it.
 fn write_pair(rows: &mut [u8; 256], w: usize, a: u8, b: u8)
-    requires { length rows.old ≡ 256 }
     ensures { rows.new ≡ with_pair rows.old w a b }
 {
     if w < 64 {
@@ -46,7 +45,7 @@ fn list_pair(rows: &mut [u8; 256], count: usize, test: Test, i: usize) -> usize
     requires listed_to { ListedTo (pair_test test.form test.gap test.seconds) i rows.old count }
     ensures { ListedTo (pair_test test.form test.gap test.seconds) (i + 1) rows.new result }
 {
-    let a = (i / 32 % 256) as u8;
+    let a = (i / 32) as u8;
     let b = (i % 32) as u8;
     if passes(test, a, b) {
         write_pair(rows, count, a, b);
@@ -61,12 +60,9 @@ pub fn list_pairs(test: Test, n: u8) -> Pairs
     ensures { Listed (rows_of_gap test.form test.gap (min n 32) test.seconds) result.rows result.count }
 {
     let mut rows = [255u8; 256];
-    let mut count: usize = 0;
-    let mut i: usize = 0;
-    let end = 32 * cap(n, 32);
-    while i < end {
+    let mut count = 0;
+    for i in 0..32 * cap(n, 32) {
         count = list_pair(&mut rows, count, test, i);
-        i += 1;
     }
     Pairs { rows, count }
 }

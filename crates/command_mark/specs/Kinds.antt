@@ -1,23 +1,21 @@
 -- WHAT KINDS 7 AND 8 LEAVE, on any contents, and what they promise.
-use Rattle.std.specs.Prelude.{◌≡◌, List, ℕ, ◌+◌}
+use Rattle.std.specs.Prelude.{◌≡◌, List, ℕ, ◌+◌, Ok}
 use Rattle.layout.specs.declared.value.Heads.{Heads}
 use Rattle.layout.specs.Marks.{marked_rows, marked_killers, marked_slots}
 use Rattle.layout.specs.Memory.{State, state_of, MarkedState}
 use Rattle.layout.specs.Names.{heads_under}
 use Rattle.layout.specs.Value.{empty_draft}
 use Rattle.model.specs.declared.answer.Report.{Report}
-use Rattle.model.specs.declared.answer.Answer.{Answer}
-use Rattle.model.specs.declared.answer.Answer.TheVariants as answer
 use Rattle.model.specs.declared.answer.Outcome.{Outcome}
 use Rattle.model.specs.declared.command.Command.{Command}
 use Rattle.model.specs.Marks.{kept_as}
-use Rattle.model.specs.Promise.{accepted_with, MarkedPromise}
+use Rattle.model.specs.Promise.{Answer, accepted_with, MarkedPromise}
 use Rattle.model.specs.Report.{struck_between, reopened_between}
 use Rattle.command_mark.specs.declared.changes.Changes.{Changes}
 
 -- THE BOARD IS KEPT under a name
 pub record KeepsBoard (name : ℕ) (before : MarkedState) (given : Answer) (after : MarkedState) : Type 0 where
-  pub answer_is : given ≡ answer.Accepted (record { struck = 0; reopened = 0; touched = 0 })
+  pub answer_is : given ≡ Ok (record { struck = 0; reopened = 0; touched = 0 })
   pub left : after ≡ kept_as before name
 
 -- a board that is brought back has no draft, and touches what it strikes and what it reopens
@@ -34,7 +32,7 @@ back_report slots slots' =
 
 -- THE BOARD UNDER A NAME IS BROUGHT BACK, where these slots were
 pub record BringsBack (name : ℕ) (names marks slots : List ℕ) (given : Answer) (after : State) : Type 0 where
-  pub answer_is : given ≡ answer.Accepted (back_report slots after.slots)
+  pub answer_is : given ≡ Ok (back_report slots after.slots)
   pub left : after ≡ state_of (record { heads = heads_under names name; draft = empty_draft }) (marked_rows marks name) (marked_killers marks name) (marked_slots marks name)
 
 -- THE PROMISE OF BOTH: the counts that may stand beside a command are any, since neither reads them

@@ -1,8 +1,6 @@
 // Kind 8, back: the board that is kept under a name is brought back, with its causes and killers and without a draft. It stays kept.
-ghost use Rattle.std.specs.Prelude.{◌≡◌, ◌<◌, length};
-ghost use Rattle.layout.specs.Bounds.{Sizes};
+ghost use Rattle.std.specs.Prelude.{◌≡◌, ◌<◌};
 ghost use Rattle.layout.specs.Memory.{memory, marked_memory};
-ghost use Rattle.layout.specs.Sizes.{marks_length};
 ghost use Rattle.model.specs.declared.command.Command.TheVariants as kind;
 ghost use Rattle.command_mark.specs.Back.{PartsBack};
 ghost use Rattle.command_mark.specs.Changes.{Few};
@@ -11,16 +9,20 @@ ghost use Rattle.command_mark.specs.Kinds.{back_outcome, BringsBack, MarkPromise
 use crate::changes::{Changes, changes_back};
 use crate::check::check_back;
 use crate::copy::read_part;
-use layout::marks::MARK;
+use layout::marks::{MARK, MARKS};
 use layout::names::{NAMES, heads_under};
-use layout::value::{Draft, Heads, KILLERS, ROWS, Value};
+use layout::value::{Draft, Heads, KILLERS, ROWS, SLOTS, Value};
 use model::answer::Outcome;
 
 // The three parts of a mark into the buffers: every byte of them is written.
-fn bring_back(marks: &[u8], name: usize, rows: &mut [u8], killers: &mut [u8], slots: &mut [u8])
-    requires marks_len { length marks.now ≡ marks_length }
-    requires name_bound { name < 2 }
-    requires sizes { Sizes rows.old killers.old slots.old }
+fn bring_back(
+    marks: &[u8; MARKS],
+    name: usize,
+    rows: &mut [u8; ROWS],
+    killers: &mut [u8; KILLERS],
+    slots: &mut [u8; SLOTS],
+)
+    requires { name < 2 }
     ensures { PartsBack marks.now name rows.new killers.new slots.new }
 {
     let start = MARK * name;
@@ -34,8 +36,7 @@ fn back_outcome(changes: Changes, heads: Heads) -> Outcome
     requires { Few changes }
     ensures { result ≡ back_outcome changes heads }
 {
-    let struck = changes.struck;
-    let reopened = changes.reopened;
+    let Changes { struck, reopened } = changes;
     let draft = Draft::empty();
     Outcome::accepted(struck, reopened, struck + reopened, Value { heads, draft })
 }
@@ -44,45 +45,41 @@ fn back_outcome(changes: Changes, heads: Heads) -> Outcome
 fn back_unchecked(
     names: &[u8; NAMES],
     name: u8,
-    rows: &mut [u8],
-    killers: &mut [u8],
-    slots: &mut [u8],
-    marks: &[u8],
+    rows: &mut [u8; ROWS],
+    killers: &mut [u8; KILLERS],
+    slots: &mut [u8; SLOTS],
+    marks: &[u8; MARKS],
 ) -> Outcome
-    requires name_bound { name < 2 }
-    requires sizes { Sizes rows.old killers.old slots.old }
-    requires marks_len { length marks.now ≡ marks_length }
+    requires { name < 2 }
     ensures { BringsBack
         name names.now marks.now slots.old result.answer
         (memory result.value rows.new killers.new slots.new) }
 {
-    let heads = heads_under(names, name as usize);
-    let changes = changes_back(slots, marks, name as usize);
-    bring_back(marks, name as usize, rows, killers, slots);
+    let place = usize::from(name);
+    let heads = heads_under(names, place);
+    let changes = changes_back(slots, marks, place);
+    bring_back(marks, place, rows, killers, slots);
     back_outcome(changes, heads)
 }
 
 // The whole of kind 8: refused, and nothing is changed; or the board is brought back.
+// In a frame of its own, for the stack.
+#[inline(never)]
 pub fn back_board(
     value: Value,
     names: &[u8; NAMES],
     name: u8,
-    rows: &mut [u8],
-    killers: &mut [u8],
-    slots: &mut [u8],
-    marks: &[u8],
+    rows: &mut [u8; ROWS],
+    killers: &mut [u8; KILLERS],
+    slots: &mut [u8; SLOTS],
+    marks: &[u8; MARKS],
 ) -> Outcome
-    requires sizes { Sizes rows.old killers.old slots.old }
-    requires marks_len { length marks.now ≡ marks_length }
     ensures { MarkPromise
         (kind.Back name) (marked_memory value names.now rows.old killers.old slots.old marks.now) result.answer
         (marked_memory result.value names.now rows.new killers.new slots.new marks.now) }
 {
-    let heads = value.heads;
-    let counts = heads.counts;
-    let n = check_back(&counts, names, name);
-    if n != 0 {
-        return Outcome::refused(n, value);
+    if let Err(refusal) = check_back(&value.heads.counts, names, name) {
+        return Outcome::refused(refusal, value);
     }
     back_unchecked(names, name, rows, killers, slots, marks)
 }

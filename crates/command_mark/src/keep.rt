@@ -1,24 +1,26 @@
 // Kind 7, mark: the board is kept under a name. Value and buffers stay as they were, and so does the draft.
-ghost use Rattle.std.specs.Prelude.{◌≡◌, ◌<◌, length};
-ghost use Rattle.layout.specs.Bounds.{Sizes};
+ghost use Rattle.std.specs.Prelude.{◌≡◌, ◌<◌};
 ghost use Rattle.layout.specs.Marks.{with_mark};
 ghost use Rattle.layout.specs.Memory.{marked_memory};
-ghost use Rattle.layout.specs.Sizes.{marks_length};
 ghost use Rattle.model.specs.declared.command.Command.TheVariants as kind;
 ghost use Rattle.command_mark.specs.Kinds.{KeepsBoard, MarkPromise};
 
 use crate::check::check_keep;
 use crate::copy::write_part;
-use layout::marks::MARK;
+use layout::marks::{MARK, MARKS};
 use layout::names::{NAMES, store_name};
-use layout::value::{KILLERS, ROWS, Value};
+use layout::value::{KILLERS, ROWS, SLOTS, Value};
 use model::answer::Outcome;
 
 // The buffers of a board into a mark: every byte of it is written, and no other.
-fn keep(marks: &mut [u8], name: usize, rows: &[u8], killers: &[u8], slots: &[u8])
-    requires marks_len { length marks.old ≡ marks_length }
-    requires name_bound { name < 2 }
-    requires sizes { Sizes rows.now killers.now slots.now }
+fn keep(
+    marks: &mut [u8; MARKS],
+    name: usize,
+    rows: &[u8; ROWS],
+    killers: &[u8; KILLERS],
+    slots: &[u8; SLOTS],
+)
+    requires { name < 2 }
     ensures { marks.new ≡ with_mark marks.old name rows.now killers.now slots.now }
 {
     let start = MARK * name;
@@ -32,44 +34,40 @@ fn keep_unchecked(
     value: Value,
     names: &mut [u8; NAMES],
     name: u8,
-    rows: &[u8],
-    killers: &[u8],
-    slots: &[u8],
-    marks: &mut [u8],
+    rows: &[u8; ROWS],
+    killers: &[u8; KILLERS],
+    slots: &[u8; SLOTS],
+    marks: &mut [u8; MARKS],
 ) -> Outcome
-    requires name_bound { name < 2 }
-    requires sizes { Sizes rows.now killers.now slots.now }
-    requires marks_len { length marks.old ≡ marks_length }
+    requires { name < 2 }
     ensures { KeepsBoard
         name (marked_memory value names.old rows.now killers.now slots.now marks.old) result.answer
         (marked_memory result.value names.new rows.now killers.now slots.now marks.new) }
 {
-    keep(marks, name as usize, rows, killers, slots);
-    store_name(names, name as usize, 1, value.heads);
+    let place = usize::from(name);
+    keep(marks, place, rows, killers, slots);
+    store_name(names, place, 1, value.heads);
     Outcome::accepted(0, 0, 0, value)
 }
 
 // The whole of kind 7: refused, and nothing is changed; or the board is kept.
+// In a frame of its own, for the stack.
+#[inline(never)]
 pub fn keep_board(
     value: Value,
     names: &mut [u8; NAMES],
     name: u8,
-    rows: &[u8],
-    killers: &[u8],
-    slots: &[u8],
-    marks: &mut [u8],
+    rows: &[u8; ROWS],
+    killers: &[u8; KILLERS],
+    slots: &[u8; SLOTS],
+    marks: &mut [u8; MARKS],
 ) -> Outcome
-    requires sizes { Sizes rows.now killers.now slots.now }
-    requires marks_len { length marks.old ≡ marks_length }
     ensures { MarkPromise
         (kind.Keep name) (marked_memory value names.old rows.now killers.now slots.now marks.old) result.answer
         (marked_memory result.value names.new rows.now killers.now slots.now marks.new) }
 {
-    let heads = value.heads;
-    let counts = heads.counts;
-    let n = check_keep(&counts, name);
-    if n != 0 {
-        return Outcome::refused(n, value);
+    if let Err(refusal) = check_keep(&value.heads.counts, name) {
+        return Outcome::refused(refusal, value);
     }
     keep_unchecked(value, names, name, rows, killers, slots, marks)
 }

@@ -3,7 +3,7 @@
 // says. Assumed: nothing.
 #![tactic(auto)]
 
-pub mod copy; // bytes over bytes
+pub mod copy; // parts of a buffer, written and read
 mod check; // the refusals
 pub mod keep; // kind 7
 pub mod changes; // the slots that bringing a board back strikes and reopens

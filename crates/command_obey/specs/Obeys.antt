@@ -1,18 +1,16 @@
 -- WHAT OBEYING A COMMAND THAT HAS BEEN READ PROMISES.
-use Rattle.std.specs.Prelude.{◌≡◌, List, ℕ}
+use Rattle.std.specs.Prelude.{◌≡◌, List, ℕ, Ok, Err}
 use Rattle.layout.specs.Memory.{State, MarkedState}
 use Rattle.layout.specs.Names.{no_names}
-use Rattle.model.specs.declared.answer.Answer.{Answer}
-use Rattle.model.specs.declared.answer.Answer.TheVariants as answer
 use Rattle.model.specs.declared.command.Command.{Command}
 use Rattle.model.specs.declared.command.Command.TheVariants as kind
-use Rattle.model.specs.Promise.{MarkedPromise, BoardMade}
+use Rattle.model.specs.Promise.{Answer, MarkedPromise, BoardMade}
 use Rattle.command_board.specs.Made.{MakesBoard}
 
 -- the names after a kind 1 that was answered so
 abbrev pub names_after : Answer → List ℕ → List ℕ
-names_after (answer.Accepted r) names = no_names
-names_after (answer.Refused n) names = names
+names_after (Ok r) names = no_names
+names_after (Err e) names = names
 
 pub record MakesAnew (counts : List ℕ) (before : State) (names : List ℕ) (given : Answer) (after : State) (names' : List ℕ) : Type 0 where
   pub board : MakesBoard counts before given after

@@ -1,4 +1,3 @@
 -- The theorems over the definitions.
-pub mod Fields
 pub mod Checks
 pub mod Changes

@@ -1,20 +1,17 @@
 -- WHAT A POST AND A RETRACTION LEAVE, on any contents: the rules' bytes written and the slots propagated, the counts as they were, and what is reported; and what the commands that do it promise.
-use Rattle.std.specs.Prelude.{◌≡◌, List, ℕ, ◌%◌}
+use Rattle.std.specs.Prelude.{◌≡◌, List, ℕ, ◌%◌, Ok}
 use Rattle.layout.specs.declared.value.Draft.{Draft}
 use Rattle.model.specs.declared.answer.Report.{Report}
-use Rattle.model.specs.declared.answer.Answer.{Answer}
-use Rattle.model.specs.declared.answer.Answer.TheVariants as answer
 use Rattle.model.specs.declared.command.Command.{Command}
-use Rattle.model.specs.Promise.{KindPromise}
-use Rattle.filter_propagate.specs.Rules.{RuleBytes}
-use Rattle.filter_meaning.specs.Rules.{bytes_in}
+use Rattle.model.specs.Promise.{Answer, KindPromise}
+use Rattle.filter_propagate.specs.Rules.{RuleBytes, rules_in}
 use Rattle.filter_post.specs.Post.{PostDone}
 use Rattle.filter_retract.specs.Done.{RetractDone}
 use Rattle.layout.specs.Memory.{State}
 
 -- the rules' bytes of a state
 abbrev pub state_rules : State → RuleBytes
-state_rules s = bytes_in s.value.heads s.rows
+state_rules s = rules_in s.rows s.value.heads
 
 -- a post reopens nothing, and touches what it strikes (SCOPE 3.9)
 abbrev pub post_report : ℕ → Report
@@ -26,7 +23,7 @@ pub record Posted (posted : Draft) (before : State) (given : Answer) (after : St
   pub done : PostDone (posted.number % 64) struck posted.rule (state_rules before) (state_rules after) before.killers after.killers before.slots after.slots
   pub counts : after.value.heads.counts ≡ before.value.heads.counts
   pub draft : after.value.draft ≡ before.value.draft
-  pub answer_is : given ≡ answer.Accepted (post_report struck)
+  pub answer_is : given ≡ Ok (post_report struck)
 
 -- a retraction strikes nothing that was open (SCOPE 3.10)
 abbrev pub retract_report : ℕ → ℕ → Report
@@ -39,7 +36,7 @@ pub record Retracted (number : ℕ) (before : State) (given : Answer) (after : S
   pub done : RetractDone (number % 64) (state_rules before) (state_rules after) before.killers after.killers before.slots after.slots reopened touched
   pub counts : after.value.heads.counts ≡ before.value.heads.counts
   pub draft : after.value.draft ≡ before.value.draft
-  pub answer_is : given ≡ answer.Accepted (retract_report reopened touched)
+  pub answer_is : given ≡ Ok (retract_report reopened touched)
 
 -- THE PROMISE OF KINDS 4 AND 5: the counts that may stand beside a command are any, since neither reads them
 abbrev pub RulesPromise : Command → State → Answer → State → Type 0

@@ -1,32 +1,31 @@
 // A command on value and buffers, and the records that it leaves for the table. The table itself is not here: its length is a number, so that 22 is decided with the
-// other refusals, and the records are handed on by value with how many of them are to be stored.
+// other refusals, and the records are handed on by value, where there are any to store.
 // Proved: what a command answers and leaves, with its records stored into any table of that length, is what specs/Promise.antt of the crate model says. Assumed: nothing.
 #![tactic(auto)]
 
-ghost use Rattle.std.specs.Prelude.{◌≡◌, length};
+ghost use Rattle.std.specs.Prelude.{◌≡◌};
 ghost use Rattle.model.specs.Commands.{read_at};
 ghost use Rattle.model.specs.Ledger.{lengths};
 ghost use Rattle.model.specs.Promise.{MemoryPromise, Promise};
-ghost use Rattle.layout.specs.Bounds.{Sizes};
 ghost use Rattle.layout.specs.Memory.{marked_memory, whole_of};
-ghost use Rattle.layout.specs.Sizes.{slots_length, marks_length};
 ghost use Rattle.command_run.specs.Store.{Stores, WithRecords, none_to_store};
 
-use layout::marks::bad_buffers;
+use command_decode::decode;
+use command_obey::obey;
+use layout::marks::MARKS;
 use layout::names::NAMES;
 use layout::summary::{RECORDS, Table};
-use layout::value::Value;
-use model::answer::{Answer, Outcome};
+use layout::value::{KILLERS, ROWS, SLOTS, Value};
+use model::answer::Outcome;
 use model::command::{Decoded, Read};
-use model::refusal::{BODY_LENGTH, BUFFER_LENGTH, TABLE_LENGTH, UNKNOWN_KIND};
+use model::refusal::Refusal;
 use summary_counts::records::table_of;
 
-// What is left of a command: its outcome, and the first so many records to be stored, none or all.
+// What is left of a command: its outcome, and the records that are to be stored, where there are any.
 #[derive(Clone, Copy)]
 pub struct Done {
     pub outcome: Outcome,
-    pub count: usize,
-    pub table: Table,
+    pub table: Option<Table>,
 }
 
 // What was read at the first byte is refused by its form, or obeyed.
@@ -35,30 +34,26 @@ fn obey_read(
     names: &mut [u8; NAMES],
     decoded: Decoded,
     bytes: &[u8],
-    rows: &mut [u8],
-    killers: &mut [u8],
-    slots: &mut [u8],
-    marks: &mut [u8],
+    rows: &mut [u8; ROWS],
+    killers: &mut [u8; KILLERS],
+    slots: &mut [u8; SLOTS],
+    marks: &mut [u8; MARKS],
 ) -> Outcome
-    requires sizes { Sizes rows.old killers.old slots.old }
-    requires marks_len { length marks.old ≡ marks_length }
-    requires decoded_value { decoded ≡ read_at bytes.now 0 }
+    requires { decoded ≡ read_at bytes.now 0 }
     ensures { MemoryPromise lengths
         (marked_memory value names.old rows.old killers.old slots.old marks.old) bytes.now
         result.answer (marked_memory result.value names.new rows.new killers.new slots.new marks.new) }
 {
-    let read = decoded.read;
-    let counts = decoded.counts;
-    match read {
+    match decoded.read {
         Read::Command(c) => {
             if decoded.next < bytes.len() {
-                Outcome::refused(BODY_LENGTH, value)
+                Outcome::refused(Refusal::BodyLength, value)
             } else {
-                command_obey::obey(value, names, c, counts, rows, killers, slots, marks)
+                obey(value, names, c, decoded.counts, rows, killers, slots, marks)
             }
         }
-        Read::Refused(_, n) => Outcome::refused(n, value),
-        Read::End => Outcome::refused(UNKNOWN_KIND, value),
+        Read::Refused(_, refusal) => Outcome::refused(refusal, value),
+        Read::End => Outcome::refused(Refusal::UnknownKind, value),
     }
 }
 
@@ -67,18 +62,16 @@ pub fn obey_bytes(
     value: Value,
     names: &mut [u8; NAMES],
     bytes: &[u8],
-    rows: &mut [u8],
-    killers: &mut [u8],
-    slots: &mut [u8],
-    marks: &mut [u8],
+    rows: &mut [u8; ROWS],
+    killers: &mut [u8; KILLERS],
+    slots: &mut [u8; SLOTS],
+    marks: &mut [u8; MARKS],
 ) -> Outcome
-    requires sizes { Sizes rows.old killers.old slots.old }
-    requires marks_len { length marks.old ≡ marks_length }
     ensures { MemoryPromise lengths
         (marked_memory value names.old rows.old killers.old slots.old marks.old) bytes.now
         result.answer (marked_memory result.value names.new rows.new killers.new slots.new marks.new) }
 {
-    let decoded = command_decode::decode(bytes, 0);
+    let decoded = decode(bytes, 0);
     obey_read(value, names, decoded, bytes, rows, killers, slots, marks)
 }
 
@@ -88,29 +81,20 @@ pub fn none_to_store(outcome: Outcome) -> Done
 {
     Done {
         outcome,
-        count: 0,
-        table: Table::empty(),
+        table: None,
     }
 }
 
 // The records of the heads that are left and of the slot bytes, where the command was accepted.
-pub fn with_records(outcome: Outcome, slots: &[u8]) -> Done
-    requires { length slots.now ≡ slots_length }
+pub fn with_records(outcome: Outcome, slots: &[u8; SLOTS]) -> Done
     ensures { WithRecords outcome slots.now result }
 {
-    let answer = outcome.answer;
-    match answer {
-        Answer::Accepted(_) => {
-            let value = outcome.value;
-            let heads = value.heads;
-            let table = table_of(heads, slots);
-            Done {
-                outcome,
-                count: RECORDS,
-                table,
-            }
-        }
-        Answer::Refused(_) => none_to_store(outcome),
+    match outcome.answer {
+        Ok(_) => Done {
+            outcome,
+            table: Some(table_of(&outcome.value.heads, slots)),
+        },
+        Err(_) => none_to_store(outcome),
     }
 }
 
@@ -129,13 +113,22 @@ pub fn command_core(
         (λ old new. Promise
         (whole_of (marked_memory value names.old rows.old killers.old slots.old marks.old) old) bytes.now result.outcome.answer
         (whole_of (marked_memory result.outcome.value names.new rows.new killers.new slots.new marks.new) new))
-        n result.count result.table.records }
+        n result.table }
 {
-    if bad_buffers(rows, killers, slots, marks) {
-        return none_to_store(Outcome::refused(BUFFER_LENGTH, value));
-    }
+    let Some(rows) = rows.as_mut_array::<ROWS>() else {
+        return none_to_store(Outcome::refused(Refusal::BufferLength, value));
+    };
+    let Some(killers) = killers.as_mut_array::<KILLERS>() else {
+        return none_to_store(Outcome::refused(Refusal::BufferLength, value));
+    };
+    let Some(slots) = slots.as_mut_array::<SLOTS>() else {
+        return none_to_store(Outcome::refused(Refusal::BufferLength, value));
+    };
+    let Some(marks) = marks.as_mut_array::<MARKS>() else {
+        return none_to_store(Outcome::refused(Refusal::BufferLength, value));
+    };
     if n != RECORDS {
-        return none_to_store(Outcome::refused(TABLE_LENGTH, value));
+        return none_to_store(Outcome::refused(Refusal::TableLength, value));
     }
     let outcome = obey_bytes(value, names, bytes, rows, killers, slots, marks);
     with_records(outcome, slots)

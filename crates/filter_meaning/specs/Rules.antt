@@ -1,9 +1,8 @@
 -- The bytes of a board's rules, as propagation reads them, and what they say of a rule in force.
-use Rattle.std.specs.Prelude.{◌≡◌, List, ℕ, ◌<◌, length, get_or}
-use Rattle.layout.specs.declared.value.Heads.{Heads}
+use Rattle.std.specs.Prelude.{◌≡◌, ℕ, ◌<◌, length, get_or}
 use Rattle.model.specs.Board.{Rule, Board, call_at, slot_at}
 use Rattle.model.specs.Representation.{rule_at}
-use Rattle.filter_propagate.specs.Rules.{RuleBytes, bytes_of}
+use Rattle.filter_propagate.specs.Rules.{RuleBytes}
 use Rattle.layout.specs.Places.{columns_of, rows_of, call_of, slot_of, row_cell, row_place, scope_place, slot_place}
 
 -- THE BYTES ARE THOSE OF THE BOARD'S RULES, and those of the empty rule where none is in force
@@ -12,10 +11,6 @@ pub record RulesOf (B : Board) (R : RuleBytes) : Type 0 where
   pub scope : (p k : ℕ) → p < 64 → k < 4 → get_or R.scope (scope_place p k) 0 ≡ call_at (rule_at B p) k
   pub lengths : (p : ℕ) → p < 64 → get_or R.lengths p 0 ≡ length (rule_at B p).rows
   pub bytes : (p w k : ℕ) → p < 64 → w < 64 → k < 4 → get_or R.rows (row_place p w k) 0 ≡ slot_at (rule_at B p) w k
-
--- the rules' bytes in heads and rows
-abbrev pub bytes_in : Heads → List ℕ → RuleBytes
-bytes_in h rows = bytes_of rows h.arity h.scope h.lengths
 
 -- what propagation reads under the number p is the rule r
 pub record ReadAs (R : RuleBytes) (p : ℕ) (r : Rule) : Type 0 where

@@ -2,20 +2,11 @@
 use Rattle.std.specs.Prelude.{◌≡◌, List, ◌≢◌, ℕ, ◌<◌, length, get_or}
 use Rattle.layout.specs.declared.value.RuleData.{RuleData}
 use Rattle.filter_propagate.specs.Rules.{RuleBytes}
-use Rattle.layout.specs.Sizes.{rows_length}
 use Rattle.layout.specs.Places.{own_place, row_place, scope_place}
 
 -- entry i becomes that of the list from
 abbrev pub Copied : List ℕ → ℕ → ℕ → ℕ → Type 0
 Copied from i old new = new ≡ get_or from i 0
-
--- what a write asks of its caller: p is a rule's number, and the tables have their lengths
-pub record Writable (p : ℕ) (R : RuleBytes) : Type 0 where
-  pub number : p < 64
-  pub rows_size : length R.rows ≡ rows_length
-  pub arity_size : length R.arity ≡ 64
-  pub scope_size : length R.scope ≡ 256
-  pub lengths_size : length R.lengths ≡ 64
 
 -- the bytes of rule q are the same
 pub record SameRule (R R' : RuleBytes) (q : ℕ) : Type 0 where

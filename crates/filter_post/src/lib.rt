@@ -5,32 +5,31 @@
 
 pub mod write; // the bytes of one rule
 
+ghost use Rattle.std.specs.Prelude.{◌≡◌, ◌<◌};
 ghost use Rattle.filter_propagate.specs.Rules.{rules_in};
-ghost use Rattle.filter_post.specs.Write.{Writable};
 ghost use Rattle.filter_post.specs.Post.{PostDone};
-ghost use Rattle.layout.specs.Bounds.{Sizes};
 
-use layout::value::RuleData;
+use filter_propagate::propagate_from;
+use layout::value::{Heads, KILLERS, ROWS, RuleData, SLOTS};
+use write::write_rule;
 
 // Writes the rule under number p and propagates from it. The number of slots struck.
 pub fn post(
-    rows: &mut [u8],
-    killers: &mut [u8],
-    slots: &mut [u8],
-    arity: &mut [u8; 64],
-    scope: &mut [u8; 256],
-    lengths: &mut [u8; 64],
+    rows: &mut [u8; ROWS],
+    killers: &mut [u8; KILLERS],
+    slots: &mut [u8; SLOTS],
+    heads: &mut Heads,
     p: usize,
-    rule: RuleData,
+    rule: &RuleData,
 ) -> usize
-    requires sizes { Sizes rows.old killers.old slots.old }
-    requires writable { Writable p (rules_in rows.old arity.old scope.old lengths.old) }
-    ensures { PostDone
-        p result rule
-        (rules_in rows.old arity.old scope.old lengths.old)
-        (rules_in rows.new arity.new scope.new lengths.new) killers.old
+    requires { p < 64 }
+    ensures done { PostDone
+        p result rule.now
+        (rules_in rows.old heads.old)
+        (rules_in rows.new heads.new) killers.old
         killers.new slots.old slots.new }
+    ensures counts { heads.new.counts ≡ heads.old.counts }
 {
-    write::write_rule(rows, arity, scope, lengths, p, rule);
-    filter_propagate::propagate_from(rows, killers, slots, arity, scope, lengths, p)
+    write_rule(rows, heads, p, rule);
+    propagate_from(rows, killers, slots, heads, p)
 }

@@ -1,6 +1,7 @@
 -- The rules as bytes, and what propagation changes.
 use Rattle.std.specs.Prelude.{◌≡◌, List, Bool, ℕ, ◌<◌}
 use Rattle.layout.specs.Places.{call_of}
+use Rattle.layout.specs.declared.value.Heads.{Heads}
 
 -- the rules as bytes: their rows, and the heads with their numbers of columns, their calls and their numbers of rows
 pub record RuleBytes : Type 0 where
@@ -13,8 +14,8 @@ abbrev pub bytes_of : List ℕ → List ℕ → List ℕ → List ℕ → RuleBy
 bytes_of rows arity scope lengths = record { rows = rows; arity = arity; scope = scope; lengths = lengths }
 
 -- those that a function is lent
-abbrev pub rules_in : List ℕ → List ℕ → List ℕ → List ℕ → RuleBytes
-rules_in rows arity scope lengths = bytes_of rows arity scope lengths
+abbrev pub rules_in : List ℕ → Heads → RuleBytes
+rules_in rows heads = bytes_of rows heads.arity heads.scope heads.lengths
 
 -- what propagate changes: the killers, the slots, and the flags of the pending rules
 pub record Progress : Type 0 where

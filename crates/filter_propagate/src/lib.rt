@@ -12,220 +12,144 @@ ghost use Rattle.filter_propagate.specs.Queue.{only_rule};
 ghost use Rattle.filter_propagate.specs.Step.{Revision, Stepped};
 ghost use Rattle.filter_propagate.specs.Steps.{Propagated};
 ghost use Rattle.filter_support.specs.Known.{Known};
-ghost use Rattle.layout.specs.Bounds.{Sizes};
 
-use filter_support::known::know_columns;
+use filter_support::known::{CallMasks, know_columns};
 use filter_support::rows::revise_columns;
-use filter_support::strikes::strike_columns;
+use filter_support::strikes::{StrikeCount, strike_columns};
+use layout::places::cap;
+use layout::value::{Heads, KILLERS, ROWS, SLOTS};
+use masks::columns::column_sets;
+use masks::rules::{enqueue, next_rule, rules_on_calls};
 
-// How many slots a revision struck, the calls where one was, and the calls whose masks are known after it.
-#[derive(Clone, Copy)]
-pub struct RevisionDone {
-    pub number: usize,
-    pub calls: u32,
-    pub known: u32,
-}
-
-// How many slots a step struck, the rules that are pending after it, and the calls whose masks are known.
+// How many slots a step struck, and the rules that are pending after it.
 #[derive(Clone, Copy)]
 pub struct StepDone {
     pub struck: usize,
     pub pending: u64,
-    pub known: u32,
 }
 
-// Revises rule p: kills its living rows that hold a struck slot, then strikes its open slots without a support.
+// Revises rule p: kills its living rows that hold a struck slot, then strikes its open slots without a support. How many it struck, and on which calls.
 pub fn revise(
-    rows: &[u8],
-    killers: &mut [u8],
-    slots: &mut [u8],
-    opened: &mut [u32; 32],
-    struck: &mut [u32; 32],
-    known: u32,
-    arity: &[u8; 64],
-    scope: &[u8; 256],
-    lengths: &[u8; 64],
+    rows: &[u8; ROWS],
+    killers: &mut [u8; KILLERS],
+    slots: &mut [u8; SLOTS],
+    masks: &mut CallMasks,
+    heads: &Heads,
     p: usize,
-) -> RevisionDone
-    requires sizes { Sizes rows.now killers.old slots.old }
+) -> StrikeCount
     requires p_bound { p < 64 }
-    requires known { Known (Has known) slots.old opened.old struck.old }
+    requires known { Known slots.old masks.old }
     ensures revision { Revision
-        (rules_in rows.now arity.now scope.now lengths.now) p result.number result.calls
+        (rules_in rows.now heads.now) p result.number result.calls
         killers.old killers.new slots.old slots.new }
-    ensures known_2 { Known (Has result.known) slots.new opened.new struck.new }
+    ensures known_2 { Known slots.new masks.new }
 {
-    let n = layout::places::cap(arity[p], 4);
-    let m = layout::places::cap(lengths[p], 64);
-    let all = know_columns(slots, opened, struck, known, scope, p, n);
-    let dead = masks::columns::column_sets(struck, scope, p, n);
+    let n = cap(heads.arity[p], 4);
+    let m = cap(heads.lengths[p], 64);
+    know_columns(slots, masks, &heads.scope, p, n);
+    let dead = column_sets(&masks.struck, &heads.scope, p, n);
     let found = revise_columns(rows, killers, dead, p, n, m);
-    let done = strike_columns(slots, opened, struck, found, scope, p as u8, n);
-    RevisionDone {
-        number: done.number,
-        calls: done.calls,
-        known: all,
-    }
+    strike_columns(slots, masks, found, &heads.scope, p as u8, n)
 }
 
 // One step: the pending rule p is revised, and the other rules on a call where a slot was struck become pending. Rule p
 // itself need not: where its calls are different, no living row of it holds a slot that it struck.
 pub fn step(
-    rows: &[u8],
-    killers: &mut [u8],
-    slots: &mut [u8],
-    opened: &mut [u32; 32],
-    struck: &mut [u32; 32],
-    known: u32,
-    arity: &[u8; 64],
-    scope: &[u8; 256],
-    lengths: &[u8; 64],
+    rows: &[u8; ROWS],
+    killers: &mut [u8; KILLERS],
+    slots: &mut [u8; SLOTS],
+    masks: &mut CallMasks,
+    heads: &Heads,
     on: &[u64; 32],
     pending: u64,
     p: usize,
 ) -> StepDone
-    requires sizes { Sizes rows.now killers.old slots.old }
-    requires rules_on { RulesOn arity.now scope.now on.now }
+    requires rules_on { RulesOn heads.now on.now }
     requires p_bound { p < 64 }
     requires has { Has pending p }
-    requires known { Known (Has known) slots.old opened.old struck.old }
+    requires known { Known slots.old masks.old }
     ensures stepped { Stepped
-        (rules_in rows.now arity.now scope.now lengths.now) p result.struck
+        (rules_in rows.now heads.now) p result.struck
         (reached killers.old slots.old (flags_of 64 pending))
         (reached killers.new slots.new (flags_of 64 result.pending)) }
-    ensures known_2 { Known (Has result.known) slots.new opened.new struck.new }
+    ensures known_2 { Known slots.new masks.new }
 {
-    let done = revise(
-        rows, killers, slots, opened, struck, known, arity, scope, lengths, p,
-    );
+    let done = revise(rows, killers, slots, masks, heads, p);
     StepDone {
         struck: done.number,
-        pending: masks::rules::enqueue(on, done.calls, pending, p),
-        known: done.known,
+        pending: enqueue(on, done.calls, pending, p),
     }
 }
 
 // Revises pending rules until none is pending, where the masks of some calls are known already. The number of slots struck.
 pub fn propagate_known(
-    rows: &[u8],
-    killers: &mut [u8],
-    slots: &mut [u8],
-    opened: &mut [u32; 32],
-    struck: &mut [u32; 32],
-    known: u32,
-    arity: &[u8; 64],
-    scope: &[u8; 256],
-    lengths: &[u8; 64],
+    rows: &[u8; ROWS],
+    killers: &mut [u8; KILLERS],
+    slots: &mut [u8; SLOTS],
+    masks: &mut CallMasks,
+    heads: &Heads,
     on: &[u64; 32],
     pending: u64,
 ) -> usize
-    requires sizes { Sizes rows.now killers.old slots.old }
-    requires rules_on { RulesOn arity.now scope.now on.now }
-    requires known { Known (Has known) slots.old opened.old struck.old }
+    requires rules_on { RulesOn heads.now on.now }
+    requires known { Known slots.old masks.old }
     ensures { Propagated
-        (rules_in rows.now arity.now scope.now lengths.now) result
+        (rules_in rows.now heads.now) result
         (reached killers.old slots.old (flags_of 64 pending))
         (reached killers.new slots.new (flags_of 64 0)) }
 {
     let mut left = pending;
-    let mut all = known;
     let mut total = 0;
-    let mut p = masks::rules::next_rule(left, 63);
-    while p < 64 {
-        let done = step(
-            rows, killers, slots, opened, struck, all, arity, scope, lengths, on, left, p,
-        );
+    let mut last = 63;
+    while let Some(p) = next_rule(left, last) {
+        let done = step(rows, killers, slots, masks, heads, on, left, p);
         total += done.struck;
         left = done.pending;
-        all = done.known;
-        p = masks::rules::next_rule(left, p);
+        last = p;
     }
     total
 }
 
 // Revises pending rules until none is pending. The number of slots struck.
 pub fn propagate(
-    rows: &[u8],
-    killers: &mut [u8],
-    slots: &mut [u8],
-    arity: &[u8; 64],
-    scope: &[u8; 256],
-    lengths: &[u8; 64],
+    rows: &[u8; ROWS],
+    killers: &mut [u8; KILLERS],
+    slots: &mut [u8; SLOTS],
+    heads: &Heads,
     on: &[u64; 32],
     pending: u64,
 ) -> usize
-    requires sizes { Sizes rows.now killers.old slots.old }
-    requires rules_on { RulesOn arity.now scope.now on.now }
+    requires { RulesOn heads.now on.now }
     ensures { Propagated
-        (rules_in rows.now arity.now scope.now lengths.now) result
+        (rules_in rows.now heads.now) result
         (reached killers.old slots.old (flags_of 64 pending))
         (reached killers.new slots.new (flags_of 64 0)) }
 {
-    let mut opened = [0u32; 32];
-    let mut struck = [0u32; 32];
-    propagate_known(
-        rows,
-        killers,
-        slots,
-        &mut opened,
-        &mut struck,
-        0,
-        arity,
-        scope,
-        lengths,
-        on,
-        pending,
-    )
+    let mut masks = CallMasks::none();
+    propagate_known(rows, killers, slots, &mut masks, heads, on, pending)
 }
 
 // Revises rule p, and where it strikes, the rules on the calls that it changed: the table of the rules on each call is made only then. The number of slots struck.
 pub fn propagate_from(
-    rows: &[u8],
-    killers: &mut [u8],
-    slots: &mut [u8],
-    arity: &[u8; 64],
-    scope: &[u8; 256],
-    lengths: &[u8; 64],
+    rows: &[u8; ROWS],
+    killers: &mut [u8; KILLERS],
+    slots: &mut [u8; SLOTS],
+    heads: &Heads,
     p: usize,
 ) -> usize
-    requires sizes { Sizes rows.now killers.old slots.old }
-    requires p_bound { p < 64 }
+    requires { p < 64 }
     ensures { Propagated
-        (rules_in rows.now arity.now scope.now lengths.now) result
+        (rules_in rows.now heads.now) result
         (reached killers.old slots.old (only_rule p))
         (reached killers.new slots.new (flags_of 64 0)) }
 {
-    let mut opened = [0u32; 32];
-    let mut struck = [0u32; 32];
-    let first = revise(
-        rows,
-        killers,
-        slots,
-        &mut opened,
-        &mut struck,
-        0,
-        arity,
-        scope,
-        lengths,
-        p,
-    );
+    let mut masks = CallMasks::none();
+    let first = revise(rows, killers, slots, &mut masks, heads, p);
     if first.number == 0 {
         return 0;
     }
-    let on = masks::rules::rules_on_calls(arity, scope);
-    let pending = masks::rules::enqueue(&on, first.calls, 0, p);
-    let rest = propagate_known(
-        rows,
-        killers,
-        slots,
-        &mut opened,
-        &mut struck,
-        first.known,
-        arity,
-        scope,
-        lengths,
-        &on,
-        pending,
-    );
+    let on = rules_on_calls(heads);
+    let pending = enqueue(&on, first.calls, 0, p);
+    let rest = propagate_known(rows, killers, slots, &mut masks, heads, &on, pending);
     first.number + rest
 }

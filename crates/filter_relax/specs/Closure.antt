@@ -7,8 +7,8 @@ use Rattle.filter_propagate.specs.Queue.{IsFlagged, Idle}
 use Rattle.filter_propagate.specs.Step.{is_pending}
 use Rattle.filter_relax.specs.Reach.{Reach}
 use Rattle.filter_relax.specs.Touched.{RuleJustifies, Touched, NoOwnKill, CallsVisited}
-use Rattle.filter_relax.specs.Bounds.{VisitTables}
 use Rattle.layout.specs.Places.{columns_of}
+use Rattle.layout.specs.Sizes.{slots_length}
 
 -- what the closure changes: the visited slots, the flags of the calls with a visited slot, and the flags of the pending rules
 pub record Traversal : Type 0 where
@@ -27,7 +27,11 @@ unsettled x = 65 * count not x.visited + count is_pending x.pending
 abbrev pub OnCallOf : RuleBytes → ℕ → ℕ → Type 0
 OnCallOf R p j = OnCalls (λ c. c ≡ j / 32) R.scope p (columns_of R.arity p)
 
--- the lengths of the tables
+-- the lengths of the tables: a flag for each slot, one for each call, and one for each rule
+pub record VisitTables (visited flags : List Bool) : Type 0 where
+  pub visited_size : length visited ≡ slots_length
+  pub flags_size : length flags ≡ 32
+
 pub record Tables (x : Traversal) : Type 0 where
   pub visited : VisitTables x.visited x.flags
   pub pending_size : length x.pending ≡ 64

@@ -1,6 +1,5 @@
 pub mod Reach
 pub mod Touched
-pub mod Bounds
 pub mod Spread
 pub mod Seed
 pub mod Scan

@@ -1,12 +1,15 @@
 // The touched slots: the visited grow to the smallest set that has them and every slot that stands in a row of its cause whose
 // killer's slot is in the set. Pending rules are scanned one after another, until none is pending.
-ghost use Rattle.std.specs.Prelude.{◌≡◌, ◌<◌, length};
+ghost use Rattle.std.specs.Prelude.{◌<◌};
 ghost use Rattle.tables.specs.Masks.{Has, flags_of, all_flags};
 ghost use Rattle.masks.specs.Rules.{RulesOn};
 ghost use Rattle.filter_propagate.specs.Rules.{rules_in};
 ghost use Rattle.filter_relax.specs.Touched.{CallsVisited};
 ghost use Rattle.filter_relax.specs.Closure.{traversal, Expanded, Closed};
-ghost use Rattle.layout.specs.Bounds.{Sizes};
+
+use crate::scan::scan_rule;
+use layout::value::{Heads, KILLERS, ROWS, SLOTS};
+use masks::rules::{enqueue, next_rule, rules_on};
 
 // The calls with a visited slot, and the rules that are to be scanned.
 #[derive(Clone, Copy)]
@@ -18,66 +21,54 @@ pub struct Frontier {
 // One step: the pending rule q is scanned, and the other rules on a call with a new visited slot become pending. Rule q itself need not:
 // where it does not kill its own rows by its own strikes, no row of it has a killer on a slot that it visited.
 pub fn expand(
-    rows: &[u8],
-    killers: &[u8],
-    slots: &[u8],
-    arity: &[u8; 64],
-    scope: &[u8; 256],
-    lengths: &[u8; 64],
+    rows: &[u8; ROWS],
+    killers: &[u8; KILLERS],
+    slots: &[u8; SLOTS],
+    heads: &Heads,
     on: &[u64; 32],
     visited: &mut [u32; 32],
     front: Frontier,
     q: usize,
 ) -> Frontier
-    requires sizes { Sizes rows.now killers.now slots.now }
-    requires visited_len { length visited.old ≡ 32 }
-    requires rules_on { RulesOn arity.now scope.now on.now }
+    requires rules_on { RulesOn heads.now on.now }
     requires q_bound { q < 64 }
     requires has { Has front.pending q }
     ensures { Expanded
-        (rules_in rows.now arity.now scope.now lengths.now) killers.now
+        (rules_in rows.now heads.now) killers.now
         slots.now q
         (traversal (all_flags 32 visited.old) (flags_of 32 front.calls) (flags_of 64 front.pending))
         (traversal (all_flags 32 visited.new) (flags_of 32 result.calls) (flags_of 64 result.pending)) }
 {
-    let changed = crate::scan::scan_rule(rows, killers, slots, arity, scope, lengths, visited, q);
+    let changed = scan_rule(rows, killers, slots, heads, visited, q);
     Frontier {
         calls: front.calls | changed,
-        pending: masks::rules::enqueue(on, changed, front.pending, q),
+        pending: enqueue(on, changed, front.pending, q),
     }
 }
 
 // Scans pending rules, at first those on the calls of the mask, until none is pending. The calls with a visited slot.
 pub fn close(
-    rows: &[u8],
-    killers: &[u8],
-    slots: &[u8],
-    arity: &[u8; 64],
-    scope: &[u8; 256],
-    lengths: &[u8; 64],
+    rows: &[u8; ROWS],
+    killers: &[u8; KILLERS],
+    slots: &[u8; SLOTS],
+    heads: &Heads,
     on: &[u64; 32],
     visited: &mut [u32; 32],
     calls: u32,
 ) -> u32
-    requires sizes { Sizes rows.now killers.now slots.now }
-    requires visited_len { length visited.old ≡ 32 }
-    requires rules_on { RulesOn arity.now scope.now on.now }
+    requires rules_on { RulesOn heads.now on.now }
     requires calls_visited { CallsVisited (flags_of 32 calls) (all_flags 32 visited.old) }
     ensures { Closed
-        (rules_in rows.now arity.now scope.now lengths.now) killers.now
+        (rules_in rows.now heads.now) killers.now
         slots.now (all_flags 32 visited.old)
         (traversal (all_flags 32 visited.new) (flags_of 32 result) (flags_of 64 0)) }
 {
-    let mut front = Frontier {
-        calls,
-        pending: masks::rules::rules_on(on, calls),
-    };
-    let mut q = masks::rules::next_rule(front.pending, 63);
-    while q < 64 {
-        front = expand(
-            rows, killers, slots, arity, scope, lengths, on, visited, front, q,
-        );
-        q = masks::rules::next_rule(front.pending, q);
+    let pending = rules_on(on, calls);
+    let mut front = Frontier { calls, pending };
+    let mut last = 63;
+    while let Some(q) = next_rule(front.pending, last) {
+        front = expand(rows, killers, slots, heads, on, visited, front, q);
+        last = q;
     }
     front.calls
 }

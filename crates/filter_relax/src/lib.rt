@@ -12,14 +12,18 @@ pub mod closure; // the closure of the visited
 pub mod reopen; // the visited slots are open again
 pub mod revive; // the rows killed by visited slots live again
 
-ghost use Rattle.std.specs.Prelude.{◌≡◌, length};
 ghost use Rattle.tables.specs.Masks.{flags_of, all_flags};
 ghost use Rattle.masks.specs.Rules.{RulesOn};
 ghost use Rattle.filter_propagate.specs.Rules.{rules_in};
 ghost use Rattle.filter_propagate.specs.Queue.{IsFlagged};
 ghost use Rattle.filter_relax.specs.Touched.{CallsVisited};
 ghost use Rattle.filter_relax.specs.Relaxed.{Relaxed};
-ghost use Rattle.layout.specs.Bounds.{Sizes};
+
+use closure::close;
+use layout::value::{Heads, KILLERS, ROWS, SLOTS};
+use masks::rules::rules_on;
+use reopen::reopen_calls;
+use revive::revive_rules;
 
 // How many slots were touched, and the rules on the call of one of them.
 #[derive(Clone, Copy)]
@@ -28,32 +32,33 @@ pub struct Relaxation {
     pub pending: u64,
 }
 
+// Of a retraction or a cancellation: how many slots came back, and how many were touched.
+#[derive(Clone, Copy)]
+pub struct ReopenCount {
+    pub reopened: usize,
+    pub touched: usize,
+}
+
 // From the visited of a seed, on the calls of the mask, to the touched slots: they are open again, and the rows that they killed live again.
 pub fn relax(
-    rows: &[u8],
-    killers: &mut [u8],
-    slots: &mut [u8],
-    arity: &[u8; 64],
-    scope: &[u8; 256],
-    lengths: &[u8; 64],
+    rows: &[u8; ROWS],
+    killers: &mut [u8; KILLERS],
+    slots: &mut [u8; SLOTS],
+    heads: &Heads,
     on: &[u64; 32],
     visited: &mut [u32; 32],
     calls: u32,
 ) -> Relaxation
-    requires sizes { Sizes rows.now killers.old slots.old }
-    requires visited_len { length visited.old ≡ 32 }
-    requires rules_on { RulesOn arity.now scope.now on.now }
+    requires rules_on { RulesOn heads.now on.now }
     requires calls_visited { CallsVisited (flags_of 32 calls) (all_flags 32 visited.old) }
     ensures { Relaxed
-        (rules_in rows.now arity.now scope.now lengths.now)
+        (rules_in rows.now heads.now)
         (IsFlagged (all_flags 32 visited.old)) result.touched killers.old killers.new
         slots.old slots.new (all_flags 32 visited.new) (flags_of 64 result.pending) }
 {
-    let seen = closure::close(
-        rows, killers, slots, arity, scope, lengths, on, visited, calls,
-    );
-    let touched = reopen::reopen_calls(slots, visited, seen);
-    let pending = masks::rules::rules_on(on, seen);
-    revive::revive_rules(rows, killers, arity, scope, lengths, visited, pending);
+    let seen = close(rows, killers, slots, heads, on, visited, calls);
+    let touched = reopen_calls(slots, visited, seen);
+    let pending = rules_on(on, seen);
+    revive_rules(rows, killers, heads, visited, pending);
     Relaxation { touched, pending }
 }

@@ -1,15 +1,15 @@
 // Reviving: the rows of pending rules whose killer's slot is visited have no killer any more.
-ghost use Rattle.std.specs.Prelude.{◌≡◌, cond, ◌*◌, ◌<◌, eqb, length};
+ghost use Rattle.std.specs.Prelude.{◌≡◌, cond, ◌*◌, ◌≤◌, ◌<◌, eqb};
 ghost use Rattle.tables.specs.Masks.{flags_of, all_flags};
 ghost use Rattle.tables.specs.Sweep.{One, Swept};
 ghost use Rattle.masks.specs.Columns.{PastEmpty};
 ghost use Rattle.filter_propagate.specs.Rules.{rules_in};
-ghost use Rattle.filter_relax.specs.Bounds.{RowSizes};
 ghost use Rattle.filter_relax.specs.Revive.{MaskRevived, RuleFreed, RuleRevived, Blocks};
-ghost use Rattle.layout.specs.Bounds.{InRow, InRule};
-ghost use Rattle.layout.specs.Sizes.{killers_length};
 
-use masks::columns::Columns;
+use crate::scan::killer_bit;
+use layout::places::cap;
+use layout::value::{Heads, KILLERS, ROWS};
+use masks::columns::{Columns, column_sets, first_columns, row_slots};
 
 // The killer, or none where its slot is visited.
 pub fn killer_left(killer: u8, hit: u32) -> u8
@@ -19,45 +19,55 @@ pub fn killer_left(killer: u8, hit: u32) -> u8
 }
 
 // Row w of rule q.
-pub fn revive_row(rows: &[u8], killers: &mut [u8], sets: Columns, q: usize, w: usize)
-    requires in_row { InRow rows.now q w 4 }
-    requires killers_len { length killers.old ≡ killers_length }
+pub fn revive_row(rows: &[u8; ROWS], killers: &mut [u8; KILLERS], sets: Columns, q: usize, w: usize)
+    requires q_bound { q < 64 }
+    requires w_bound { w < 64 }
     ensures { One 0 (MaskRevived rows.now sets q) (64 * q) w killers.old killers.new }
 {
-    let row = masks::columns::row_slots(rows, q, w);
+    let row = row_slots(rows, q, w);
     let old = killers[64 * q + w];
-    let hit = crate::scan::killer_bit(row, sets, old);
+    let hit = killer_bit(row, sets, old);
     killers[64 * q + w] = killer_left(old, hit);
 }
 
 // The first m rows of rule q.
-pub fn revive_rows(rows: &[u8], killers: &mut [u8], sets: Columns, q: usize, m: usize)
-    requires in_rule { InRule rows.now q m 4 }
-    requires killers_len { length killers.old ≡ killers_length }
+pub fn revive_rows(
+    rows: &[u8; ROWS],
+    killers: &mut [u8; KILLERS],
+    sets: Columns,
+    q: usize,
+    m: usize,
+)
+    requires q_bound { q < 64 }
+    requires m_bound { m ≤ 64 }
     ensures { Swept 0 (MaskRevived rows.now sets q) (64 * q) m killers.old killers.new }
 {
-    let mut w = 0;
-    while w < m {
+    for w in 0..m {
         revive_row(rows, killers, sets, q, w);
-        w += 1;
     }
 }
 
 // The same for a rule of n columns.
-pub fn revive_columns(rows: &[u8], killers: &mut [u8], sets: Columns, q: usize, n: usize, m: usize)
-    requires in_rule { InRule rows.now q m n }
-    requires killers_len { length killers.old ≡ killers_length }
+pub fn revive_columns(
+    rows: &[u8; ROWS],
+    killers: &mut [u8; KILLERS],
+    sets: Columns,
+    q: usize,
+    n: usize,
+    m: usize,
+)
+    requires q_bound { q < 64 }
+    requires m_bound { m ≤ 64 }
+    requires n_bound { n ≤ 4 }
     requires past_empty { PastEmpty n sets }
     ensures { Swept 0 (MaskRevived rows.now sets q) (64 * q) m killers.old killers.new }
 {
     if n < 3 {
-        let two = masks::columns::first_two(sets);
-        revive_rows(rows, killers, two, q, m);
+        revive_rows(rows, killers, first_columns::<2>(sets), q, m);
         return;
     }
     if n < 4 {
-        let three = masks::columns::first_three(sets);
-        revive_rows(rows, killers, three, q, m);
+        revive_rows(rows, killers, first_columns::<3>(sets), q, m);
         return;
     }
     revive_rows(rows, killers, sets, q, m)
@@ -65,46 +75,40 @@ pub fn revive_columns(rows: &[u8], killers: &mut [u8], sets: Columns, q: usize, 
 
 // All rows of rule q.
 pub fn revive_rule(
-    rows: &[u8],
-    killers: &mut [u8],
-    arity: &[u8; 64],
-    scope: &[u8; 256],
-    lengths: &[u8; 64],
+    rows: &[u8; ROWS],
+    killers: &mut [u8; KILLERS],
+    heads: &Heads,
     visited: &[u32; 32],
     q: usize,
 )
-    requires row_sizes { RowSizes rows.now killers.old }
-    requires q_bound { q < 64 }
+    requires { q < 64 }
     ensures { Swept
         0
-        (RuleFreed (rules_in rows.now arity.now scope.now lengths.now) (all_flags 32 visited.now) q)
+        (RuleFreed (rules_in rows.now heads.now) (all_flags 32 visited.now) q)
         (64 * q) 64 killers.old killers.new }
 {
-    let n = layout::places::cap(arity[q], 4);
-    let m = layout::places::cap(lengths[q], 64);
-    let sets = masks::columns::column_sets(visited, scope, q, n);
+    let n = cap(heads.arity[q], 4);
+    let m = cap(heads.lengths[q], 64);
+    let sets = column_sets(visited, &heads.scope, q, n);
     revive_columns(rows, killers, sets, q, n, m)
 }
 
 // All rules of the mask.
 pub fn revive_rules(
-    rows: &[u8],
-    killers: &mut [u8],
-    arity: &[u8; 64],
-    scope: &[u8; 256],
-    lengths: &[u8; 64],
+    rows: &[u8; ROWS],
+    killers: &mut [u8; KILLERS],
+    heads: &Heads,
     visited: &[u32; 32],
     rules: u64,
 )
-    requires { RowSizes rows.now killers.old }
     ensures { Blocks
-        (RuleRevived (rules_in rows.now arity.now scope.now lengths.now) (all_flags 32 visited.now) (flags_of 64 rules))
+        (RuleRevived (rules_in rows.now heads.now) (all_flags 32 visited.now) (flags_of 64 rules))
         64 killers.old killers.new }
 {
     let mut left = rules;
     while left != 0 {
-        let q = u64::trailing_zeros(left) as usize;
-        revive_rule(rows, killers, arity, scope, lengths, visited, q);
-        left = left & (left - 1);
+        let q = left.trailing_zeros() as usize;
+        revive_rule(rows, killers, heads, visited, q);
+        left &= left - 1;
     }
 }

@@ -4,164 +4,118 @@
 // Assumed: nothing.
 #![tactic(auto)]
 
-ghost use Rattle.std.specs.Prelude.{◌≡◌, ◌*◌, ◌<◌, length};
+ghost use Rattle.std.specs.Prelude.{◌≡◌, ◌*◌, ◌<◌};
 ghost use Rattle.tables.specs.Sweep.{Becomes, Swept};
 ghost use Rattle.tables.specs.Masks.{flags_of};
 ghost use Rattle.masks.specs.Rules.{RulesOn};
 ghost use Rattle.filter_propagate.specs.Rules.{rules_in};
 ghost use Rattle.filter_relax.specs.Seed.{Seeding};
-ghost use Rattle.filter_post.specs.Write.{Writable};
 ghost use Rattle.filter_retract.specs.Done.{RuleCleared, CausedBy, StruckAgain, Reworked, RetractDone};
-ghost use Rattle.layout.specs.Bounds.{Sizes};
-ghost use Rattle.layout.specs.Sizes.{killers_length};
 
-use filter_relax::reopen::difference;
-use layout::value::RuleData;
-
-// How many slots came back, and how many were touched.
-#[derive(Clone, Copy)]
-pub struct Retraction {
-    pub reopened: usize,
-    pub touched: usize,
-}
+use filter_post::write::write_rule;
+use filter_propagate::propagate;
+use filter_relax::seed::visit_seed;
+use filter_relax::{ReopenCount, relax};
+use layout::places::cap;
+use layout::value::{Heads, KILLERS, ROWS, RuleData, SLOTS};
+use masks::rules::{drop_rule, rules_on_calls, without};
 
 // The killer bytes of rule p become 255.
-pub fn clear_killers(killers: &mut [u8], p: usize)
-    requires killers_len { length killers.old ≡ killers_length }
-    requires p_bound { p < 64 }
+pub fn clear_killers(killers: &mut [u8; KILLERS], p: usize)
+    requires { p < 64 }
     ensures { Swept 0 (Becomes 255) (64 * p) 64 killers.old killers.new }
 {
-    let mut w = 0;
-    while w < 64 {
-        killers[64 * p + w] = 255;
-        w += 1;
-    }
+    killers[64 * p..64 * p + 64].fill(255);
 }
 
 // Rule p becomes the empty rule.
-pub fn clear_rule(
-    rows: &mut [u8],
-    killers: &mut [u8],
-    arity: &mut [u8; 64],
-    scope: &mut [u8; 256],
-    lengths: &mut [u8; 64],
-    p: usize,
-)
-    requires killers_len { length killers.old ≡ killers_length }
-    requires writable { Writable p (rules_in rows.old arity.old scope.old lengths.old) }
-    ensures { RuleCleared
-        p (rules_in rows.old arity.old scope.old lengths.old)
-        (rules_in rows.new arity.new scope.new lengths.new) killers.old
+pub fn clear_rule(rows: &mut [u8; ROWS], killers: &mut [u8; KILLERS], heads: &mut Heads, p: usize)
+    requires { p < 64 }
+    ensures cleared { RuleCleared
+        p (rules_in rows.old heads.old)
+        (rules_in rows.new heads.new) killers.old
         killers.new }
+    ensures counts { heads.new.counts ≡ heads.old.counts }
 {
-    filter_post::write::write_rule(rows, arity, scope, lengths, p, RuleData::empty());
+    write_rule(rows, heads, p, &RuleData::empty());
     clear_killers(killers, p);
 }
 
 // Rule p is cleared, also in the table of the rules on each call, and the other pending rules are revised. The number of slots struck.
 pub fn strike_again(
-    rows: &mut [u8],
-    killers: &mut [u8],
-    slots: &mut [u8],
-    arity: &mut [u8; 64],
-    scope: &mut [u8; 256],
-    lengths: &mut [u8; 64],
+    rows: &mut [u8; ROWS],
+    killers: &mut [u8; KILLERS],
+    slots: &mut [u8; SLOTS],
+    heads: &mut Heads,
     on: &mut [u64; 32],
     pending: u64,
     p: usize,
 ) -> usize
-    requires sizes { Sizes rows.old killers.old slots.old }
-    requires writable { Writable p (rules_in rows.old arity.old scope.old lengths.old) }
-    requires rules_on { RulesOn arity.old scope.old on.old }
-    ensures { StruckAgain
-        p result (flags_of 64 pending) (rules_in rows.old arity.old scope.old lengths.old)
-        (rules_in rows.new arity.new scope.new lengths.new) killers.old
+    requires rules_on { RulesOn heads.old on.old }
+    requires p_bound { p < 64 }
+    ensures struck_again { StruckAgain
+        p result (flags_of 64 pending) (rules_in rows.old heads.old)
+        (rules_in rows.new heads.new) killers.old
         killers.new slots.old slots.new }
+    ensures counts { heads.new.counts ≡ heads.old.counts }
 {
-    clear_rule(rows, killers, arity, scope, lengths, p);
-    masks::rules::drop_rule(on, p);
-    let left = masks::rules::without(pending, p);
-    filter_propagate::propagate(rows, killers, slots, arity, scope, lengths, on, left)
+    clear_rule(rows, killers, heads, p);
+    drop_rule(on, p);
+    propagate(rows, killers, slots, heads, on, without(pending, p))
 }
 
 // The retraction of a rule that struck something: the slots that are visited, on the calls of the mask. They reopen, with all that leaned on them, and the rules on
 // the reopened calls are revised.
 pub fn retract_struck(
-    rows: &mut [u8],
-    killers: &mut [u8],
-    slots: &mut [u8],
-    arity: &mut [u8; 64],
-    scope: &mut [u8; 256],
-    lengths: &mut [u8; 64],
+    rows: &mut [u8; ROWS],
+    killers: &mut [u8; KILLERS],
+    slots: &mut [u8; SLOTS],
+    heads: &mut Heads,
     visited: &mut [u32; 32],
     calls: u32,
     p: usize,
-) -> Retraction
-    requires sizes { Sizes rows.old killers.old slots.old }
-    requires writable { Writable p (rules_in rows.old arity.old scope.old lengths.old) }
-    requires seeding { Seeding (CausedBy p (rules_in rows.old arity.old scope.old lengths.old) slots.old) visited.old calls }
-    ensures { Reworked
-        p (rules_in rows.old arity.old scope.old lengths.old)
-        (rules_in rows.new arity.new scope.new lengths.new) killers.old
+) -> ReopenCount
+    requires p_bound { p < 64 }
+    requires seeding { Seeding (CausedBy p (rules_in rows.old heads.old) slots.old) visited.old calls }
+    ensures reworked { Reworked
+        p (rules_in rows.old heads.old)
+        (rules_in rows.new heads.new) killers.old
         killers.new slots.old slots.new result.reopened result.touched }
+    ensures counts { heads.new.counts ≡ heads.old.counts }
 {
-    let mut on = masks::rules::rules_on_calls(arity, scope);
-    let relaxed = filter_relax::relax(
-        rows, killers, slots, arity, scope, lengths, &on, visited, calls,
-    );
-    let again = strike_again(
-        rows,
-        killers,
-        slots,
-        arity,
-        scope,
-        lengths,
-        &mut on,
-        relaxed.pending,
-        p,
-    );
-    Retraction {
-        reopened: difference(relaxed.touched, again),
+    let mut on = rules_on_calls(heads);
+    let relaxed = relax(rows, killers, slots, heads, &on, visited, calls);
+    let again = strike_again(rows, killers, slots, heads, &mut on, relaxed.pending, p);
+    ReopenCount {
+        reopened: relaxed.touched.saturating_sub(again),
         touched: relaxed.touched,
     }
 }
 
 // Rule p leaves force. A rule that struck nothing is only cleared.
 pub fn retract(
-    rows: &mut [u8],
-    killers: &mut [u8],
-    slots: &mut [u8],
-    arity: &mut [u8; 64],
-    scope: &mut [u8; 256],
-    lengths: &mut [u8; 64],
+    rows: &mut [u8; ROWS],
+    killers: &mut [u8; KILLERS],
+    slots: &mut [u8; SLOTS],
+    heads: &mut Heads,
     p: usize,
-) -> Retraction
-    requires sizes { Sizes rows.old killers.old slots.old }
-    requires writable { Writable p (rules_in rows.old arity.old scope.old lengths.old) }
-    ensures { RetractDone
-        p (rules_in rows.old arity.old scope.old lengths.old)
-        (rules_in rows.new arity.new scope.new lengths.new) killers.old
+) -> ReopenCount
+    requires { p < 64 }
+    ensures done { RetractDone
+        p (rules_in rows.old heads.old)
+        (rules_in rows.new heads.new) killers.old
         killers.new slots.old slots.new result.reopened result.touched }
+    ensures counts { heads.new.counts ≡ heads.old.counts }
 {
-    let n = layout::places::cap(arity[p], 4);
-    let mut visited = [0u32; 32];
-    let calls = filter_relax::seed::visit_seed(slots, scope, &mut visited, p, n);
+    let n = cap(heads.arity[p], 4);
+    let mut visited = [0; 32];
+    let calls = visit_seed(slots, &heads.scope, &mut visited, p, n);
     if calls == 0 {
-        clear_rule(rows, killers, arity, scope, lengths, p);
-        return Retraction {
+        clear_rule(rows, killers, heads, p);
+        return ReopenCount {
             reopened: 0,
             touched: 0,
         };
     }
-    retract_struck(
-        rows,
-        killers,
-        slots,
-        arity,
-        scope,
-        lengths,
-        &mut visited,
-        calls,
-        p,
-    )
+    retract_struck(rows, killers, slots, heads, &mut visited, calls, p)
 }

@@ -1,5 +1,4 @@
 -- The parts of a rule's revision: specs of the crate filter_support.
-pub mod Bounds
 pub mod Rows
 pub mod Walk
 pub mod Strikes

@@ -1,13 +1,11 @@
 // The walk over a rule's rows: it kills the living rows that hold a struck slot, and gathers the slots of those that go on living, a set for each column. A row is
 // treated without a branch, so that the compiler treats several at once.
-ghost use Rattle.std.specs.Prelude.{◌≡◌, ◌<◌, length};
+ghost use Rattle.std.specs.Prelude.{◌≡◌, ◌≤◌, ◌<◌};
 ghost use Rattle.masks.specs.Columns.{PastEmpty};
-ghost use Rattle.filter_support.specs.Bounds.{RowTables};
 ghost use Rattle.filter_support.specs.Walk.{FirstMeeting, killer_now, alive_set, WithRow, RowWalked, Walked, WalkedColumns};
-ghost use Rattle.layout.specs.Bounds.{InRule};
-ghost use Rattle.layout.specs.Sizes.{killers_length};
 
-use masks::columns::Columns;
+use layout::value::{KILLERS, ROWS};
+use masks::columns::{Columns, first_columns, row_slots};
 
 // The first column where the two sets meet, or 255.
 pub fn first_meeting(a: Columns, b: Columns) -> u8
@@ -55,17 +53,18 @@ pub fn with_row(found: Columns, row: Columns, killer: u8) -> Columns
 
 // A living row is killed by its first struck slot; where it has none its slots are added to the found.
 pub fn revise_row(
-    rows: &[u8],
-    killers: &mut [u8],
+    rows: &[u8; ROWS],
+    killers: &mut [u8; KILLERS],
     struck: Columns,
     found: Columns,
     p: usize,
     w: usize,
 ) -> Columns
-    requires { RowTables rows.now killers.old p w }
+    requires p_bound { p < 64 }
+    requires w_bound { w < 64 }
     ensures { RowWalked rows.now struck p w killers.old killers.new found result }
 {
-    let row = masks::columns::row_slots(rows, p, w);
+    let row = row_slots(rows, p, w);
     let first = first_meeting(row, struck);
     let now = killer_now(killers[64 * p + w], first);
     killers[64 * p + w] = now;
@@ -73,48 +72,46 @@ pub fn revise_row(
 }
 
 // The same for the first m rows.
-pub fn revise_rows(rows: &[u8], killers: &mut [u8], struck: Columns, p: usize, m: usize) -> Columns
-    requires in_rule { InRule rows.now p m 4 }
-    requires killers_len { length killers.old ≡ killers_length }
+pub fn revise_rows(
+    rows: &[u8; ROWS],
+    killers: &mut [u8; KILLERS],
+    struck: Columns,
+    p: usize,
+    m: usize,
+) -> Columns
+    requires p_bound { p < 64 }
+    requires m_bound { m ≤ 64 }
     ensures { Walked rows.now struck p m killers.old killers.new result }
 {
-    let mut found = Columns {
-        c0: 0,
-        c1: 0,
-        c2: 0,
-        c3: 0,
-    };
-    let mut w = 0;
-    while w < m {
+    let mut found = Columns::NONE;
+    for w in 0..m {
         found = revise_row(rows, killers, struck, found, p, w);
-        w += 1;
     }
     found
 }
 
-// The same for a rule of n columns.
+// The same for a rule of n columns. A closure for the walk would not do here: of the killers that it borrows nothing is known after it.
 pub fn revise_columns(
-    rows: &[u8],
-    killers: &mut [u8],
+    rows: &[u8; ROWS],
+    killers: &mut [u8; KILLERS],
     struck: Columns,
     p: usize,
     n: usize,
     m: usize,
 ) -> Columns
-    requires in_rule { InRule rows.now p m n }
-    requires killers_len { length killers.old ≡ killers_length }
+    requires p_bound { p < 64 }
+    requires m_bound { m ≤ 64 }
+    requires n_bound { n ≤ 4 }
     requires past_empty { PastEmpty n struck }
     ensures { WalkedColumns rows.now struck p n m killers.old killers.new result }
 {
     if n < 3 {
-        let two = masks::columns::first_two(struck);
-        let found = revise_rows(rows, killers, two, p, m);
-        return masks::columns::first_two(found);
+        let found = revise_rows(rows, killers, first_columns::<2>(struck), p, m);
+        return first_columns::<2>(found);
     }
     if n < 4 {
-        let three = masks::columns::first_three(struck);
-        let found = revise_rows(rows, killers, three, p, m);
-        return masks::columns::first_three(found);
+        let found = revise_rows(rows, killers, first_columns::<3>(struck), p, m);
+        return first_columns::<3>(found);
     }
     revise_rows(rows, killers, struck, p, m)
 }

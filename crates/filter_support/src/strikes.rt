@@ -1,11 +1,13 @@
 // Striking: the open slots on a rule's calls that no living row of the rule holds become struck, with the rule as their cause.
-ghost use Rattle.std.specs.Prelude.{◌≡◌, ◌<◌};
+ghost use Rattle.std.specs.Prelude.{◌≡◌, ◌≤◌, ◌<◌};
 ghost use Rattle.tables.specs.Masks.{Has};
-ghost use Rattle.filter_support.specs.Bounds.{InCall, InColumns};
-ghost use Rattle.filter_support.specs.Known.{Known, ColumnCall, StillKnown};
+ghost use Rattle.filter_support.specs.Known.{KnownCalls, ColumnCall, StillKnown};
 ghost use Rattle.filter_support.specs.Strikes.{SlotsStruck, CallWith, AllOpen, Lacks, NotIn, WithCall, ColumnsStruck};
 
-use masks::columns::Columns;
+use crate::known::CallMasks;
+use layout::value::SLOTS;
+use masks::columns::{Columns, column};
+use masks::slots::set_difference;
 
 // How many slots were struck, and the calls where one was.
 #[derive(Clone, Copy)]
@@ -15,41 +17,40 @@ pub struct StrikeCount {
 }
 
 // Strikes the slots of call c in the mask, from the lowest on. Their number.
-pub fn strike_slots(slots: &mut [u8], p: u8, c: usize, lost: u32) -> usize
-    requires in_call { InCall slots.old p c }
+pub fn strike_slots(slots: &mut [u8; SLOTS], p: u8, c: usize, lost: u32) -> usize
+    requires p_bound { p < 64 }
+    requires c_bound { c < 32 }
     requires all_open { AllOpen slots.old c lost }
     ensures { SlotsStruck (CallWith (Has lost) c) p result slots.old slots.new }
 {
     let mut left = lost;
     let mut total = 0;
     while left != 0 {
-        let s = u32::trailing_zeros(left) as usize;
+        let s = left.trailing_zeros() as usize;
         slots[32 * c + s] = p;
         total += 1;
-        left = left & (left - 1);
+        left &= left - 1;
     }
     total
 }
 
 // Strikes the open slots of call c that are not found, and changes the masks of the call with them, which are known. Their number.
 pub fn strike_call(
-    slots: &mut [u8],
-    opened: &mut [u32; 32],
-    struck: &mut [u32; 32],
+    slots: &mut [u8; SLOTS],
+    masks: &mut CallMasks,
     p: u8,
     c: usize,
     found: u32,
 ) -> usize
-    requires in_call { InCall slots.old p c }
-    requires known { Known (λ d. d ≡ c) slots.old opened.old struck.old }
+    requires p_bound { p < 64 }
+    requires c_bound { c < 32 }
+    requires known { KnownCalls (λ d. d ≡ c) slots.old masks.old }
     ensures slots_struck { SlotsStruck (CallWith (Lacks found) c) p result slots.old slots.new }
-    ensures still_known { StillKnown
-        slots.old opened.old struck.old
-        slots.new opened.new struck.new }
+    ensures still_known { StillKnown slots.old masks.old slots.new masks.new }
 {
-    let lost = masks::slots::set_difference(opened[c], found);
-    opened[c] = opened[c] & found;
-    struck[c] = struck[c] | lost;
+    let lost = set_difference(masks.opened[c], found);
+    masks.opened[c] &= found;
+    masks.struck[c] |= lost;
     strike_slots(slots, p, c, lost)
 }
 
@@ -58,40 +59,32 @@ pub fn with_call(calls: u32, c: usize, number: usize) -> u32
     requires { c < 32 }
     ensures { WithCall calls c number result }
 {
-    if number > 0 {
-        calls | (1u32 << (c as u32))
-    } else {
-        calls
-    }
+    if number > 0 { calls | (1 << c) } else { calls }
 }
 
 // Strikes the open slots on the calls of n columns of rule p that are not found.
 pub fn strike_columns(
-    slots: &mut [u8],
-    opened: &mut [u32; 32],
-    struck: &mut [u32; 32],
+    slots: &mut [u8; SLOTS],
+    masks: &mut CallMasks,
     found: Columns,
     scope: &[u8; 256],
     p: u8,
     n: usize,
 ) -> StrikeCount
-    requires in_columns { InColumns slots.old p n }
-    requires known { Known (ColumnCall scope.now p n) slots.old opened.old struck.old }
+    requires p_bound { p < 64 }
+    requires n_bound { n ≤ 4 }
+    requires known { KnownCalls (ColumnCall scope.now p n) slots.old masks.old }
     ensures columns_struck { ColumnsStruck (NotIn found) scope.now p n result.number result.calls slots.old slots.new }
-    ensures still_known { StillKnown
-        slots.old opened.old struck.old
-        slots.new opened.new struck.new }
+    ensures still_known { StillKnown slots.old masks.old slots.new masks.new }
 {
     let mut number = 0;
-    let mut calls: u32 = 0;
-    let mut k = 0;
-    while k < n {
-        let c = (scope[4 * (p as usize) + k] % 32) as usize;
-        let held = masks::columns::column(found, k);
-        let d = strike_call(slots, opened, struck, p, c, held);
+    let mut calls = 0;
+    for k in 0..n {
+        let c = usize::from(scope[4 * usize::from(p) + k] % 32);
+        let held = column(found, k);
+        let d = strike_call(slots, masks, p, c, held);
         calls = with_call(calls, c, d);
         number += d;
-        k += 1;
     }
     StrikeCount { number, calls }
 }

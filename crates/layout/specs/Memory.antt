@@ -1,5 +1,6 @@
 -- A STATE OF THE MEMORY: the value and the three buffers of the board; with the marks and a summary table beside them it is the whole that commands write. The fresh ones.
 use Rattle.std.specs.Prelude.{◌≡◌, List, ℕ, ◌<◌, length, replicate, get_or}
+use Rattle.layout.specs.declared.value.Heads.{Heads}
 use Rattle.layout.specs.declared.value.Value.{Value}
 use Rattle.layout.specs.Value.{empty_draft, fresh_value}
 use Rattle.layout.specs.Names.{no_names}
@@ -20,6 +21,10 @@ state_of value rows killers slots = record { value = value; rows = rows; killers
 -- the same with the buffers that a function is lent
 abbrev pub memory : Value → List ℕ → List ℕ → List ℕ → State
 memory value rows killers slots = state_of value rows killers slots
+
+-- a state of these heads, for a function that is handed no draft
+abbrev pub state_of_heads : Heads → List ℕ → List ℕ → List ℕ → State
+state_of_heads heads rows killers slots = state_of (record { heads = heads; draft = empty_draft }) rows killers slots
 
 -- a state of these parts, for a function that is handed only some of them: [] stands for a part that it does not look at, and no question looks at the draft
 abbrev pub state_of_parts : List ℕ → List ℕ → List ℕ → List ℕ → List ℕ → List ℕ → List ℕ → State

@@ -18,9 +18,6 @@ empty_draft = record { number = 255; rule = empty_rule }
 abbrev pub fresh_value : Value
 fresh_value = record { heads = fresh_heads; draft = empty_draft }
 
--- a value with another draft, and with other heads
+-- a value with another draft
 abbrev pub with_draft : Value → Draft → Value
 with_draft value d = record { heads = value.heads; draft = d }
-
-abbrev pub with_heads : Value → Heads → Value
-with_heads value h = record { heads = h; draft = value.draft }

@@ -6,9 +6,5 @@ ghost use Rattle.layout.specs.Memory.{Filled};
 pub fn fill(buffer: &mut [u8], v: u8)
     ensures { Filled (length buffer.old) v buffer.new }
 {
-    let mut i = 0;
-    while i < buffer.len() {
-        buffer[i] = v;
-        i += 1;
-    }
+    buffer.fill(v);
 }

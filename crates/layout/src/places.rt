@@ -6,22 +6,21 @@ ghost use Rattle.layout.specs.Places.{cancelled?};
 pub fn cap(x: u8, n: usize) -> usize
     ensures { result ≡ min x n }
 {
-    let y = x as usize;
-    if y < n { y } else { n }
+    usize::from(x).min(n)
 }
 
 // The rule that a number names: modulo 64, so that any byte names one. Altered memory may hold a draft whose number is over 63.
 pub fn rule_index(number: u8) -> usize
     ensures { result ≡ number % 64 }
 {
-    (number % 64) as usize
+    usize::from(number % 64)
 }
 
 // The byte at a place; 0 past the end.
 pub fn byte_at(bytes: &[u8], at: usize) -> u8
     ensures { result ≡ get_or bytes.now at 0 }
 {
-    if at < bytes.len() { bytes[at] } else { 0 }
+    bytes.get(at).copied().unwrap_or(0)
 }
 
 // The byte of each slot of a cancelled call.
@@ -31,5 +30,5 @@ pub const CANCELLED: u8 = 253;
 pub fn is_cancelled(slots: &[u8], call: u8) -> bool
     ensures { result ≡ cancelled? slots.now call }
 {
-    call < 32 && byte_at(slots, 32 * (call as usize)) == CANCELLED
+    call < 32 && byte_at(slots, 32 * usize::from(call)) == CANCELLED
 }

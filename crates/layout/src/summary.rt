@@ -2,6 +2,9 @@
 ghost use Rattle.std.specs.Prelude.{◌≡◌};
 ghost use Rattle.layout.specs.Summary.{no_table};
 
+// The records of the table that the host lends: one for each call.
+pub const RECORDS: usize = 32;
+
 // A call's figures; all 0 for a call that is not on the board.
 #[repr(C)]
 #[derive(Clone, Copy)]
@@ -18,11 +21,8 @@ pub struct Summary {
 #[repr(C)]
 #[derive(Clone, Copy)]
 pub struct Table {
-    pub records: [Summary; 32],
+    pub records: [Summary; RECORDS],
 }
-
-// The records of the table that the host lends: one for each call.
-pub const RECORDS: usize = 32;
 
 impl Summary {
     pub const NONE: Summary = Summary {
@@ -38,7 +38,7 @@ impl Table {
         ensures { result ≡ no_table }
     {
         Self {
-            records: [Summary::NONE; 32],
+            records: [Summary::NONE; RECORDS],
         }
     }
 }

@@ -1,6 +1,6 @@
 // The value beside the lent buffers, whole.
 ghost use Rattle.std.specs.Prelude.{◌≡◌, length};
-ghost use Rattle.layout.specs.Value.{fresh_heads, empty_rule, empty_draft, fresh_value, with_draft, with_heads};
+ghost use Rattle.layout.specs.Value.{fresh_heads, empty_rule, empty_draft, fresh_value, with_draft};
 ghost use Rattle.layout.specs.Sizes.{bad_lent?};
 
 // The calls and the heads of the rules in force.
@@ -60,13 +60,7 @@ pub fn bad_lengths(rows: &[u8], killers: &[u8], slots: &[u8]) -> bool
         ≡ bad_lent?
         (record { rows = length rows.entry.now; killers = length killers.now; slots = length slots.now }) }
 {
-    if rows.len() != ROWS {
-        return true;
-    }
-    if killers.len() != KILLERS {
-        return true;
-    }
-    slots.len() != SLOTS
+    rows.len() != ROWS || killers.len() != KILLERS || slots.len() != SLOTS
 }
 
 impl Heads {
@@ -126,15 +120,6 @@ impl Value {
     pub fn with_draft(self, draft: Draft) -> Self
         ensures { result ≡ with_draft self draft }
     {
-        let heads = self.heads;
-        Self { heads, draft }
-    }
-
-    // The same value with other heads.
-    pub fn with_heads(self, heads: Heads) -> Self
-        ensures { result ≡ with_heads self heads }
-    {
-        let draft = self.draft;
-        Self { heads, draft }
+        Self { draft, ..self }
     }
 }

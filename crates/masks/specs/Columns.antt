@@ -1,5 +1,5 @@
 -- A set of slots for each column of a rule.
-use Rattle.std.specs.Prelude.{◌≡◌, List, ℕ, zero, suc, ◌+◌, ◌*◌, ◌^◌, ◌≤◌, ◌<◌, get_or}
+use Rattle.std.specs.Prelude.{◌≡◌, cond, ltb, List, ℕ, zero, suc, ◌+◌, ◌*◌, ◌^◌, ◌≤◌, ◌<◌, get_or}
 use Rattle.tables.specs.Masks.{Has}
 use Rattle.layout.specs.Places.{call_of, slot_of}
 use Rattle.masks.specs.declared.columns.Columns.{Columns}
@@ -19,12 +19,9 @@ InColumn x k s = Has (column_of x k) s
 abbrev pub no_columns : Columns
 no_columns = record { c0 = 0; c1 = 0; c2 = 0; c3 = 0 }
 
--- the first two and the first three columns alone
-abbrev pub first_two : Columns → Columns
-first_two x = record { c0 = x.c0; c1 = x.c1; c2 = 0; c3 = 0 }
-
-abbrev pub first_three : Columns → Columns
-first_three x = record { c0 = x.c0; c1 = x.c1; c2 = x.c2; c3 = 0 }
+-- the first n columns alone, two at least
+abbrev pub first_columns : ℕ → Columns → Columns
+first_columns n x = record { c0 = x.c0; c1 = x.c1; c2 = cond (ltb 2 n) x.c2 0; c3 = cond (ltb 3 n) x.c3 0 }
 
 -- nothing past the n columns
 abbrev pub PastEmpty : ℕ → Columns → Type 0

@@ -1,7 +1,8 @@
 -- The rules on each call as masks of 64 bits, and the pending rules as one such mask.
-use Rattle.std.specs.Prelude.{◌≡◌, List, ◌⊎◌, ℕ, ◌≤◌, ◌<◌, length, get_or}
+use Rattle.std.specs.Prelude.{◌≡◌, List, ◌⊎◌, ℕ, ◌<◌, Option, Some, None, length, get_or}
 use Rattle.tables.specs.Masks.{bit_of, Has, IsMask}
 use Rattle.layout.specs.Places.{call_of, columns_of}
+use Rattle.layout.specs.declared.value.Heads.{Heads}
 
 -- one of the first n columns of rule q is on a call of C
 abbrev pub OnCalls : (ℕ → Type 0) → List ℕ → ℕ → ℕ → Type 0
@@ -16,8 +17,8 @@ pub record RulesTo (arity scope : List ℕ) (n : ℕ) (on : List ℕ) : Type 0 w
   pub size : length on ≡ 32
   pub each : (c : ℕ) → c < 32 → IsMask (OnCall arity scope c) n (get_or on c 0)
 
-abbrev pub RulesOn : List ℕ → List ℕ → List ℕ → Type 0
-RulesOn arity scope on = RulesTo arity scope 64 on
+abbrev pub RulesOn : Heads → List ℕ → Type 0
+RulesOn heads on = RulesTo heads.arity heads.scope 64 on
 
 -- rule s joins the mask of call c for each c and s of Q, and nothing else changes
 pub record Inserted (Q : ℕ → ℕ → Type 0) (old new : List ℕ) : Type 0 where
@@ -25,10 +26,6 @@ pub record Inserted (Q : ℕ → ℕ → Type 0) (old new : List ℕ) : Type 0 w
   pub stays : (c s : ℕ) → Has (get_or old c 0) s → Has (get_or new c 0) s
   pub joins : (c s : ℕ) → Q c s → Has (get_or new c 0) s
   pub only : (c s : ℕ) → Has (get_or new c 0) s → Has (get_or old c 0) s ⊎ Q c s
-
--- it is rule q on the call of its column k, where that is one of its n
-abbrev pub ColumnRule : List ℕ → ℕ → ℕ → ℕ → ℕ → ℕ → Type 0
-ColumnRule scope q n k c s = (s ≡ q) × (k < n) × (call_of scope q k ≡ c)
 
 -- it is rule q on the call of one of its n columns
 abbrev pub ScopeRule : List ℕ → ℕ → ℕ → ℕ → ℕ → Type 0
@@ -60,8 +57,7 @@ pub record Enqueues (on : List ℕ) (calls p pending r : ℕ) : Type 0 where
   pub joins : (q : ℕ) → (q ≡ p → ⊥) → OnAny on calls q → Has r q
   pub only : (q : ℕ) → Has r q → (q ≡ p → ⊥) × (Has pending q ⊎ OnAny on calls q)
 
--- r is a pending rule, or 64 where none is
-pub record NextRule (pending r : ℕ) : Type 0 where
-  pub le : r ≤ 64
-  pub here : r < 64 → Has pending r
-  pub absent : r ≡ 64 → pending ≡ 0
+-- r is a pending rule, or none where none is
+abbrev pub NextRule : ℕ → Option ℕ → Type 0
+NextRule pending (Some p) = (p < 64) × Has pending p
+NextRule pending None = pending ≡ 0

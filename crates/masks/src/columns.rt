@@ -1,8 +1,9 @@
 // A set of slots for each column of a rule. The walks over a rule's rows are written once, for four columns; with the spare columns set to 0, and what is found there
 // thrown away, the compiler makes a loop for two columns and one for three of them.
-ghost use Rattle.std.specs.Prelude.{◌≡◌, ◌+◌, ◌%◌, ◌^◌, ◌<◌, length};
-ghost use Rattle.masks.specs.Columns.{column_of, word_at, RowMasks, first_two, first_three, ColumnSet, ColumnSets};
-ghost use Rattle.layout.specs.Bounds.{InRow};
+ghost use Rattle.std.specs.Prelude.{◌≡◌, ◌+◌, ◌%◌, ◌^◌, ◌<◌};
+ghost use Rattle.masks.specs.Columns.{column_of, word_at, RowMasks, first_columns, ColumnSet, ColumnSets};
+
+use layout::value::ROWS;
 
 // A set of slots for each of four columns.
 #[derive(Clone, Copy)]
@@ -13,74 +14,59 @@ pub struct Columns {
     pub c3: u32,
 }
 
+impl Columns {
+    // No slot for any column.
+    pub const NONE: Columns = Columns {
+        c0: 0,
+        c1: 0,
+        c2: 0,
+        c3: 0,
+    };
+}
+
 // The set of column k.
 pub fn column(x: Columns, k: usize) -> u32
     ensures { result ≡ column_of x k }
 {
-    if k == 0 {
-        return x.c0;
+    match k {
+        0 => x.c0,
+        1 => x.c1,
+        2 => x.c2,
+        _ => x.c3,
     }
-    if k == 1 {
-        return x.c1;
-    }
-    if k == 2 {
-        return x.c2;
-    }
-    x.c3
 }
 
-// The first two columns alone.
-pub fn first_two(x: Columns) -> Columns
-    ensures { result ≡ first_two x }
+// The first N columns alone, two at least.
+pub fn first_columns<const N: usize>(x: Columns) -> Columns
+    ensures { result ≡ first_columns N x }
 {
-    let c0 = x.c0;
-    let c1 = x.c1;
     Columns {
-        c0,
-        c1,
-        c2: 0,
-        c3: 0,
+        c0: x.c0,
+        c1: x.c1,
+        c2: if N > 2 { x.c2 } else { 0 },
+        c3: if N > 3 { x.c3 } else { 0 },
     }
-}
-
-// The first three columns alone.
-pub fn first_three(x: Columns) -> Columns
-    ensures { result ≡ first_three x }
-{
-    let c0 = x.c0;
-    let c1 = x.c1;
-    let c2 = x.c2;
-    Columns { c0, c1, c2, c3: 0 }
-}
-
-// A byte as a wider number.
-pub fn wide(b: u8) -> u32
-    ensures { (result ≡ b) × (result < 256) }
-{
-    b as u32
 }
 
 // The four bytes from i on as one number, the first as its lowest: so that a row is read at once.
-pub fn word(rows: &[u8], i: usize) -> u32
-    requires { i + 3 < length rows.now }
+pub fn word(rows: &[u8; ROWS], i: usize) -> u32
+    requires { i + 3 < ROWS }
     ensures { result ≡ word_at rows.now i }
 {
-    wide(rows[i])
-        + 256 * wide(rows[i + 1])
-        + 65536 * wide(rows[i + 2])
-        + 16777216 * wide(rows[i + 3])
+    u32::from_le_bytes([rows[i], rows[i + 1], rows[i + 2], rows[i + 3]])
 }
 
 // The mask of the slot in the lowest byte of a number.
 pub fn slot_bit(x: u32) -> u32
     ensures { result ≡ 2 ^ (x % 32) }
 {
-    1u32 << (x % 32)
+    1 << (x % 32)
 }
 
 // The slots of row w of rule p, a mask of one for each column.
-pub fn row_slots(rows: &[u8], p: usize, w: usize) -> Columns
-    requires { InRow rows.now p w 4 }
+pub fn row_slots(rows: &[u8; ROWS], p: usize, w: usize) -> Columns
+    requires p_bound { p < 64 }
+    requires w_bound { w < 64 }
     ensures { RowMasks rows.now p w result }
 {
     let x = word(rows, 256 * p + 4 * w);
@@ -98,7 +84,7 @@ pub fn column_set(sets: &[u32; 32], scope: &[u8; 256], p: usize, n: usize, k: us
     ensures { ColumnSet sets.now scope.now p n k result }
 {
     if k < n {
-        sets[(scope[4 * p + k] % 32) as usize]
+        sets[usize::from(scope[4 * p + k] % 32)]
     } else {
         0
     }

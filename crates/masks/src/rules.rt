@@ -1,45 +1,30 @@
 // The rules on each call as masks of 64 bits, and the pending rules, those that are to be looked at, as one such mask.
-ghost use Rattle.std.specs.Prelude.{◌≡◌, ◌≤◌, ◌<◌, length};
-ghost use Rattle.masks.specs.Rules.{ColumnRule, ScopeRule, Inserted, RulesOn, RuleDropped, RulesOnAny, Without, Enqueues, NextRule};
+ghost use Rattle.std.specs.Prelude.{◌≤◌, ◌<◌};
+ghost use Rattle.masks.specs.Rules.{ScopeRule, Inserted, RulesOn, RuleDropped, RulesOnAny, Without, Enqueues, NextRule};
 
-// Rule q joins the rules on the call of its column k, where that is one of its n.
-pub fn add_column(scope: &[u8; 256], on: &mut [u64; 32], q: usize, n: usize, k: usize)
-    requires on_len { length on.old ≡ 32 }
-    requires q_bound { q < 64 }
-    requires k_bound { k < 4 }
-    ensures { Inserted (ColumnRule scope.now q n k) on.old on.new }
-{
-    if k < n {
-        let c = (scope[4 * q + k] % 32) as usize;
-        on[c] = on[c] | (1u64 << (q as u64));
-    }
-}
+use layout::places::cap;
+use layout::value::Heads;
 
-// The same for its n columns.
+// Rule q joins the rules on the calls of its n columns.
 pub fn add_rule(scope: &[u8; 256], on: &mut [u64; 32], q: usize, n: usize)
-    requires on_len { length on.old ≡ 32 }
     requires q_bound { q < 64 }
     requires n_bound { n ≤ 4 }
     ensures { Inserted (ScopeRule scope.now q n) on.old on.new }
 {
-    add_column(scope, on, q, n, 0);
-    add_column(scope, on, q, n, 1);
-    add_column(scope, on, q, n, 2);
-    add_column(scope, on, q, n, 3);
+    for k in 0..n {
+        let c = usize::from(scope[4 * q + k] % 32);
+        on[c] |= 1 << q;
+    }
 }
 
 // The rules on each call.
-pub fn rules_on_calls(arity: &[u8; 64], scope: &[u8; 256]) -> [u64; 32]
-    ensures { RulesOn arity.now scope.now result }
+pub fn rules_on_calls(heads: &Heads) -> [u64; 32]
+    ensures { RulesOn heads.now result }
 {
-    let mut on = [0u64; 32];
-    let mut q = 0;
-    while q < 64 {
-        let n = layout::places::cap(arity[q], 4);
-        if n > 0 {
-            add_rule(scope, &mut on, q, n);
-        }
-        q += 1;
+    let mut on = [0; 32];
+    for q in 0..64 {
+        let n = cap(heads.arity[q], 4);
+        add_rule(&heads.scope, &mut on, q, n);
     }
     on
 }
@@ -49,19 +34,16 @@ pub fn without(rules: u64, p: usize) -> u64
     requires { p < 64 }
     ensures { Without p rules result }
 {
-    rules & !(1u64 << (p as u64))
+    rules & !(1 << p)
 }
 
 // Rule p leaves the rules on every call.
 pub fn drop_rule(on: &mut [u64; 32], p: usize)
-    requires on_len { length on.old ≡ 32 }
-    requires p_bound { p < 64 }
+    requires { p < 64 }
     ensures { RuleDropped p on.old on.new }
 {
-    let mut c = 0;
-    while c < 32 {
+    for c in 0..32 {
         on[c] = without(on[c], p);
-        c += 1;
     }
 }
 
@@ -69,12 +51,11 @@ pub fn drop_rule(on: &mut [u64; 32], p: usize)
 pub fn rules_on(on: &[u64; 32], calls: u32) -> u64
     ensures { RulesOnAny on.now calls result }
 {
-    let mut rules: u64 = 0;
+    let mut rules = 0;
     let mut left = calls;
     while left != 0 {
-        let c = u32::trailing_zeros(left) as usize;
-        rules = rules | on[c];
-        left = left & (left - 1);
+        rules |= on[left.trailing_zeros() as usize];
+        left &= left - 1;
     }
     rules
 }
@@ -87,16 +68,18 @@ pub fn enqueue(on: &[u64; 32], calls: u32, pending: u64, p: usize) -> u64
     without(pending | rules_on(on, calls), p)
 }
 
-// A pending rule, the next one after p going round, or 64 where none is pending. Rules taken in turn are revised less often than lowest first: their calls' other
+// A pending rule, the next one after p going round; none where none is pending. Rules taken in turn are revised less often than lowest first: their calls' other
 // rules have struck by then.
-pub fn next_rule(pending: u64, p: usize) -> usize
+pub fn next_rule(pending: u64, p: usize) -> Option<usize>
     requires { p < 64 }
     ensures { NextRule pending result }
 {
-    let above = (pending >> (p as u64)) >> 1;
+    let above = (pending >> p) >> 1;
     if above != 0 {
-        p + 1 + (u64::trailing_zeros(above) as usize)
-    } else {
-        u64::trailing_zeros(pending) as usize
+        return Some(p + 1 + above.trailing_zeros() as usize);
     }
+    if pending == 0 {
+        return None;
+    }
+    Some(pending.trailing_zeros() as usize)
 }

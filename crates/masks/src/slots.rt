@@ -1,52 +1,38 @@
 // The slots of a call as masks of 32 bits.
-ghost use Rattle.std.specs.Prelude.{◌≡◌, ◌<◌, length};
+ghost use Rattle.std.specs.Prelude.{◌≡◌, ◌<◌};
 ghost use Rattle.tables.specs.Masks.{IsMask};
-ghost use Rattle.masks.specs.Slots.{Tested, SetDifference};
+ghost use Rattle.masks.specs.Slots.{SlotsTested, SetDifference};
 ghost use Rattle.layout.specs.Places.{cause_of};
-ghost use Rattle.layout.specs.Sizes.{slots_length};
 
-// 1 where the two bytes are the same.
-pub fn same(b: u8, x: u8) -> u32
-    ensures { Tested (b ≡ x) result }
-{
-    if b == x { 1 } else { 0 }
-}
+use layout::value::SLOTS;
 
-// 1 where the byte is below the bound.
-pub fn below(b: u8, bound: u8) -> u32
-    ensures { Tested (b < bound) result }
+// The slots of call c whose byte passes the test. Each test makes a loop of its own, which looks at several slots at once.
+pub fn slots_where<F: Fn(u8) -> bool>(slots: &[u8; SLOTS], c: usize, test: F) -> u32
+    requires c_bound { c < 32 }
+    requires callable { F.IsAlwaysCallable test }
+    ensures { SlotsTested (F.post test) slots.now c 32 result }
 {
-    if b < bound { 1 } else { 0 }
+    let mut m: u32 = 0;
+    for s in 0..32 {
+        m |= u32::from(test(slots[32 * c + s])) << s;
+    }
+    m
 }
 
 // The slots of call c with the byte x: 255 for those that are open, a rule's number for those that it struck.
-pub fn slots_with(slots: &[u8], c: usize, x: u8) -> u32
-    requires slots_len { length slots.now ≡ slots_length }
-    requires c_bound { c < 32 }
+pub fn slots_with(slots: &[u8; SLOTS], c: usize, x: u8) -> u32
+    requires { c < 32 }
     ensures { IsMask (λ s. cause_of slots.now c s ≡ x) 32 result }
 {
-    let mut m: u32 = 0;
-    let mut s: usize = 0;
-    while s < 32 {
-        m = m | (same(slots[32 * c + s], x) << (s as u32));
-        s += 1;
-    }
-    m
+    slots_where(slots, c, |b| b == x)
 }
 
-// The slots of call c with a byte below the bound: 64 for those that are struck. A function of its own, since one for both tests made small boards slower.
-pub fn slots_below(slots: &[u8], c: usize, bound: u8) -> u32
-    requires slots_len { length slots.now ≡ slots_length }
-    requires c_bound { c < 32 }
+// The slots of call c with a byte below the bound: 64 for those that are struck.
+pub fn slots_below(slots: &[u8; SLOTS], c: usize, bound: u8) -> u32
+    requires { c < 32 }
     ensures { IsMask (λ s. cause_of slots.now c s < bound) 32 result }
 {
-    let mut m: u32 = 0;
-    let mut s: usize = 0;
-    while s < 32 {
-        m = m | (below(slots[32 * c + s], bound) << (s as u32));
-        s += 1;
-    }
-    m
+    slots_where(slots, c, |b| b < bound)
 }
 
 // What is in the first set and not in the second. By value, since an element of a lent array has no bound by itself, and the complement needs one.

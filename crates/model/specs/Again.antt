@@ -11,7 +11,7 @@ use Rattle.model.specs.declared.command.Read.TheVariants as found
 use Rattle.model.specs.Commands.{read_at}
 use Rattle.model.specs.Ledger.{Member}
 use Rattle.model.specs.Lists.{Runs, done, then, Entered}
-use Rattle.model.specs.Promise.{number_of}
+use Rattle.model.specs.Refusals.{number_of}
 
 -- under the name lie the heads and the buffers of this state, byte for byte
 pub record Under (name : ℕ) (s : State) (m : MarkedState) : Type 0 where
@@ -34,7 +34,7 @@ ApartKind name (kind.Cancel c) = Unit {0}
 
 abbrev pub ApartRead : ℕ → Read → Type 0
 ApartRead name (found.Command c) = ApartKind name c
-ApartRead name (found.Refused k n) = Unit {0}
+ApartRead name (found.Refused k e) = Unit {0}
 ApartRead name found.End = Unit {0}
 
 -- what is refused changes nothing, so it is apart whatever it is: each command of a list that ran

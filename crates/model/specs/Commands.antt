@@ -8,7 +8,7 @@ use Rattle.model.specs.declared.command.Command.TheVariants as kind
 use Rattle.model.specs.declared.command.Read.{Read}
 use Rattle.model.specs.declared.command.Read.TheVariants as found
 use Rattle.model.specs.declared.command.Decoded.{Decoded}
-use Rattle.model.specs.Numbers as refused
+use Rattle.model.specs.declared.refusal.Refusal.TheVariants as refused
 
 -- the kinds that there are, and how many bytes follow the kind's own
 abbrev pub is_kind : ℕ → Bool
@@ -80,5 +80,5 @@ read_at s at =
       counts = counts_at s (get_or s at 0) (at + 1);
       next = at + 1 + body_size (get_or s at 0);
     })
-    (without (found.Refused (get_or s at 0) refused.body_length) at))
-    (without (found.Refused (get_or s at 0) refused.unknown_kind) at))
+    (without (found.Refused (get_or s at 0) refused.BodyLength) at))
+    (without (found.Refused (get_or s at 0) refused.UnknownKind) at))

@@ -11,7 +11,7 @@ use Rattle.model.specs.Tests.{some?, every?, is_none}
 use Rattle.model.specs.Commands.{scope_of, slots_of, read_at}
 use Rattle.model.specs.Gaps.{bad_form?, bad_gap?, rule_of_gap}
 use Rattle.layout.specs.Sizes.{CommandLent, bad_buffers?, bad_table?, killers_length, rows_length, slots_length, marks_length, records_length}
-use Rattle.model.specs.Refusals.{first_of}
+use Rattle.model.specs.Refusals.{number, first_of}
 use Rattle.model.specs.Numbers as refused
 
 -- a rule and the number that it is to come into force under
@@ -135,12 +135,12 @@ kind_conditions L c ns = conditions_for none_reserved L c ns
 -- 3 and 4 of a command's bytes: 3 also where there is no byte at all, 4 also where bytes are left over
 abbrev pub form_conditions : Read → Bool → List (Bool × ℕ)
 form_conditions (found.Command c) leftOver = (leftOver, refused.body_length) ∷ []
-form_conditions (found.Refused k n) leftOver = (true, n) ∷ []
+form_conditions (found.Refused k e) leftOver = (true, number e) ∷ []
 form_conditions found.End leftOver = (true, refused.unknown_kind) ∷ []
 
 abbrev pub own_conditions : Ledger → Read → List ℕ → List (Bool × ℕ)
 own_conditions L (found.Command c) ns = kind_conditions L c ns
-own_conditions L (found.Refused k n) ns = []
+own_conditions L (found.Refused k e) ns = []
 own_conditions L found.End ns = []
 
 -- what is checked without a look at the board: the lengths lent and the bytes' form; then the whole table of a command
@@ -192,7 +192,7 @@ effect L (kind.Cancel c) ns = record { board = cancel_call L.board c; draft = L.
 
 abbrev pub read_effect : Ledger → Read → List ℕ → Ledger
 read_effect L (found.Command c) ns = effect L c ns
-read_effect L (found.Refused k n) ns = L
+read_effect L (found.Refused k e) ns = L
 read_effect L found.End ns = L
 
 -- a command that is refused, under any number but 0, does nothing (SCOPE 6.6)

@@ -1,10 +1,9 @@
 -- WHOLE LISTS AND DEMAND 3 (SCOPE 6).
 use Rattle.std.specs.Prelude.{◌≡◌, refl, cond, List, [], ◌∷◌, ◌↔◌, ◌⊎◌, ℕ, ◌<◌, length, eqb}
-use Rattle.model.specs.declared.answer.Answer.{Answer}
 use Rattle.model.specs.Board.{Rule, Board, InForce, Live, Viable, Alive, Dead, FullPlan, AtLeast}
 use Rattle.model.specs.Records.{Open, Struck, Caused, KillerIn, NoRing, EscapeFromAll}
 use Rattle.model.specs.Ledger.{Member}
-use Rattle.model.specs.Promise.{Promise}
+use Rattle.model.specs.Promise.{Answer, Promise}
 use Rattle.layout.specs.declared.value.Value.{Value}
 use Rattle.layout.specs.declared.summary.Summary.{Summary}
 use Rattle.layout.specs.Places.{cause_of, killer_of}

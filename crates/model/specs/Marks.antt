@@ -67,5 +67,5 @@ LeavesMarks (kind.Cancel c) before after = MarksLeft before.names before.marks a
 -- of what was read
 abbrev pub LeavesMarksOf : Read → MarkedState → MarkedState → Type 0
 LeavesMarksOf (found.Command c) before after = LeavesMarks c before after
-LeavesMarksOf (found.Refused k n) before after = ⊥
+LeavesMarksOf (found.Refused k e) before after = ⊥
 LeavesMarksOf found.End before after = ⊥

@@ -1,10 +1,9 @@
 -- WHAT THE COMMAND ENTRY PROMISES (SCOPE 6.10, 10.1), over the state, the marks and the table before, the command's bytes, the answer, and the three after. The lengths
 -- lent are those before. The entry's `ensures` cites the last record, and nothing else.
-use Rattle.std.specs.Prelude.{◌≡◌, List, [], ◌∷◌, ℕ, zero, suc}
+use Rattle.std.specs.Prelude.{◌≡◌, List, [], ◌∷◌, ℕ, zero, suc, Result, Ok, Err}
 use Rattle.layout.specs.declared.value.Value.{Value}
 use Rattle.model.specs.declared.answer.Report.{Report}
-use Rattle.model.specs.declared.answer.Answer.{Answer}
-use Rattle.model.specs.declared.answer.Answer.TheVariants as answer
+use Rattle.model.specs.declared.refusal.Refusal.{Refusal}
 use Rattle.model.specs.declared.answer.Outcome.{Outcome}
 use Rattle.model.specs.declared.command.Command.{Command}
 use Rattle.model.specs.declared.command.Command.TheVariants as kind
@@ -19,40 +18,40 @@ use Rattle.model.specs.Marks.{RepresentsMarked, LeavesMarks, LeavesMarksOf}
 use Rattle.model.specs.Summary.{Current}
 use Rattle.layout.specs.Memory.{State, MarkedState, Whole, lent_with}
 use Rattle.layout.specs.Sizes.{CommandLent}
-use Rattle.model.specs.Refusals.{first_of}
+use Rattle.model.specs.Refusals.{number, first_of, number_of}
 
--- AN ANSWER'S NUMBER AND VALUES (SCOPE 10.5): 0 with S, R, T for an accepted command; of a refusal the number, and no values (4.2)
-abbrev pub number_of : Answer → ℕ
-number_of (answer.Accepted r) = 0
-number_of (answer.Refused n) = n
+-- THE ANSWER TO A COMMAND
+abbrev pub Answer : Type 0
+Answer = Result Report Refusal
 
+-- its values (SCOPE 10.5): S, R, T of an accepted command, and none of a refusal (4.2)
 abbrev pub report_values : Report → List ℕ
 report_values r = r.struck ∷ r.reopened ∷ r.touched ∷ []
 
 abbrev pub values_of : Answer → List ℕ
-values_of (answer.Accepted r) = report_values r
-values_of (answer.Refused n) = []
+values_of (Ok r) = report_values r
+values_of (Err e) = []
 
 -- no refusal has the number 0 (SCOPE 4.1)
 abbrev pub NeverZero : Answer → Type 0
-NeverZero given = given ≡ answer.Refused 0 → ⊥
+NeverZero given = (e : Refusal) → given ≡ Err e → number e ≡ 0 → ⊥
 
 -- values go with the number 0 alone
 abbrev pub values_at : ℕ → List ℕ → List ℕ
 values_at zero values = values
 values_at (suc n) values = []
 
--- the two outcomes of a command: refused under a number, with the value as it was; accepted, with S, R and T to report, and the value that is left
-abbrev pub refused_with : ℕ → Value → Outcome
-refused_with n value = record { answer = answer.Refused n; value = value }
+-- the two outcomes of a command: refused, with the value as it was; accepted, with S, R and T to report, and the value that is left
+abbrev pub refused_with : Refusal → Value → Outcome
+refused_with e value = record { answer = Err e; value = value }
 
 abbrev pub accepted_with : ℕ → ℕ → ℕ → Value → Outcome
-accepted_with struck reopened touched value = record { answer = answer.Accepted (record { struck = struck; reopened = reopened; touched = touched }); value = value }
+accepted_with struck reopened touched value = record { answer = Ok (record { struck = struck; reopened = reopened; touched = touched }); value = value }
 
 -- the report of what was read, on the board B: of a command by its kind
 abbrev pub ReportsOf : Board → Read → State → State → Report → Type 0
 ReportsOf B (found.Command c) before after r = Reports B c before after r
-ReportsOf B (found.Refused k n) before after r = ⊥
+ReportsOf B (found.Refused k e) before after r = ⊥
 ReportsOf B found.End before after r = ⊥
 
 -- A DECISION, by the number of the first condition that holds, or 0: the answer's number and values, the report where it is 0, and what is said of the memory after
@@ -75,7 +74,7 @@ ObeyedMarked L before c ns given after =
     Decided n (Reports L.board c before.state after.state) (RepresentsMarked (obey n L (found.Command c) ns) after) given
 
 pub record MarkedPromise (before : MarkedState) (c : Command) (ns : List ℕ) (given : Answer) (after : MarkedState) : Type 0 where
-  pub refused : (n : ℕ) → given ≡ answer.Refused n → after ≡ before
+  pub refused : (e : Refusal) → given ≡ Err e → after ≡ before
   pub never_zero : NeverZero given
   pub marks : number_of given ≡ 0 → LeavesMarks c before after
   pub obeyed : (L : Ledger) → LedgerShape L → RepresentsMarked L before → ObeyedMarked L before c ns given after
@@ -87,7 +86,7 @@ Obeyed L before c ns given after =
     Decided n (Reports L.board c before after) (Represents (obey n L (found.Command c) ns) after) given
 
 pub record KindPromise (before : State) (c : Command) (ns : List ℕ) (given : Answer) (after : State) : Type 0 where
-  pub refused : (n : ℕ) → given ≡ answer.Refused n → after ≡ before
+  pub refused : (e : Refusal) → given ≡ Err e → after ≡ before
   pub never_zero : NeverZero given
   pub obeyed : (L : Ledger) → LedgerShape L → Represents L before → Obeyed L before c ns given after
 
@@ -102,7 +101,7 @@ pub record MemoryPromise (lent : CommandLent) (before : MarkedState) (bytes : Li
   -- WHATEVER THE MEMORY HOLDS (SCOPE 2.7): 1, 22, 3 and 4 are given on their conditions
   pub early : (n : ℕ) → first_of (early_conditions lent bytes) ≡ suc n → number_of given ≡ suc n
   -- a refusal leaves value, buffers and marks as they were (SCOPE 4.2), and has a number
-  pub refused : (n : ℕ) → given ≡ answer.Refused n → after ≡ before
+  pub refused : (e : Refusal) → given ≡ Err e → after ≡ before
   pub never_zero : NeverZero given
   -- a kind 1 does the same on every memory
   pub made : first_of (early_conditions lent bytes) ≡ 0 → (read_at bytes 0).read ≡ found.Command kind.Board
@@ -116,6 +115,6 @@ pub record MemoryPromise (lent : CommandLent) (before : MarkedState) (bytes : Li
 pub record Promise (before : Whole) (bytes : List ℕ) (given : Answer) (after : Whole) : Type 0 where
   pub memory : MemoryPromise (lent_with before) before.marked bytes given after.marked
   -- refused, the table is as it was (SCOPE 4.2)
-  pub table_kept : (n : ℕ) → given ≡ answer.Refused n → after.table ≡ before.table
+  pub table_kept : (e : Refusal) → given ≡ Err e → after.table ≡ before.table
   -- accepted, it is current, whatever it held (SCOPE 2.9): on the board of every ledger that the state after is of
   pub current : number_of given ≡ 0 → (L : Ledger) → LedgerShape L → Represents L after.marked.state → Current L.board after.table

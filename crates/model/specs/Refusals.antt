@@ -1,5 +1,42 @@
 -- CONDITIONS WITH THEIR NUMBERS (SCOPE 4.3): of a list of them the first that holds gives the refusal.
-use Rattle.std.specs.Prelude.{Bool, true, false, ◌&&◌, cond, List, [], ◌∷◌, ℕ, zero, suc, eqb}
+use Rattle.std.specs.Prelude.{◌≡◌, Bool, true, false, ◌&&◌, cond, List, [], ◌∷◌, ℕ, zero, suc, Result, Ok, Err, eqb}
+use Rattle.model.specs.declared.refusal.Refusal.{Refusal}
+use Rattle.model.specs.declared.refusal.Refusal.TheVariants as kind
+use Rattle.model.specs.Numbers as refused
+
+-- THE NUMBER OF A REFUSAL (SCOPE 4.1)
+abbrev pub number : Refusal → ℕ
+number kind.BufferLength = refused.buffer_length
+number kind.FileLength = refused.file_length
+number kind.UnknownKind = refused.unknown_kind
+number kind.BodyLength = refused.body_length
+number kind.BadCounts = refused.bad_counts
+number kind.NoBoard = refused.no_board
+number kind.BadNumber = refused.bad_number
+number kind.BadArity = refused.bad_arity
+number kind.CallOffBoard = refused.call_off_board
+number kind.CallTwice = refused.call_twice
+number kind.SpareField = refused.spare_field
+number kind.NoDraft = refused.no_draft
+number kind.DraftFull = refused.draft_full
+number kind.SlotOffCall = refused.slot_off_call
+number kind.RowTwice = refused.row_twice
+number kind.InForce = refused.in_force
+number kind.NotInForce = refused.not_in_force
+number kind.NoCall = refused.no_call
+number kind.NoSlot = refused.no_slot
+number kind.NoRow = refused.no_row
+number kind.NoColumn = refused.no_column
+number kind.TableLength = refused.table_length
+number kind.BadForm = refused.bad_form
+number kind.BadGap = refused.bad_gap
+number kind.TooManyPairs = refused.too_many_pairs
+number kind.BadName = refused.bad_name
+number kind.NothingKept = refused.nothing_kept
+number kind.AlreadyCancelled = refused.already_cancelled
+number kind.CancelledCall = refused.cancelled_call
+number kind.PlanLength = refused.plan_length
+number kind.BadPlanByte = refused.bad_plan_byte
 
 -- the number of the first condition that holds; 0 where none does
 abbrev pub first_of : List (Bool × ℕ) → ℕ
@@ -20,11 +57,17 @@ abbrev pub numbered : List (Bool × ℕ) → Bool
 numbered [] = true
 numbered (x ∷ xs) = is_refusal x.1 && numbered xs
 
--- WHAT THE CODE DOES: n, or where it is 0 the number of a condition that holds; and so on through a list
-abbrev pub or_else : ℕ → Bool → ℕ → ℕ
-or_else zero holds number = cond holds number 0
-or_else (suc n) holds number = suc n
+-- THE NUMBER OF AN ANSWER (SCOPE 10.5): the refusal's, and 0 where there is an answer
+abbrev pub number_of : {A : Type 0} → Result A Refusal → ℕ
+number_of (Ok a) = 0
+number_of (Err e) = number e
 
-abbrev pub chain : ℕ → List (Bool × ℕ) → ℕ
-chain n [] = n
-chain n (x ∷ xs) = chain (or_else n x.0 x.1) xs
+-- the refusal, where the condition holds
+abbrev pub Checked : Refusal → Bool → Result (Unit {0}) Refusal → Type 0
+Checked e holds (Ok u) = holds ≡ false
+Checked e holds (Err f) = (holds ≡ true) × (f ≡ e)
+
+-- AN ANSWER BY A NUMBER: what is to be answered where the number is 0, else the refusal that has it
+abbrev pub AnsweredBy : {A : Type 0} → ℕ → A → Result A Refusal → Type 0
+AnsweredBy n a (Ok b) = (n ≡ 0) × (b ≡ a)
+AnsweredBy n a (Err e) = number e ≡ n

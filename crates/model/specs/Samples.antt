@@ -64,12 +64,12 @@ pub record Sample : Type 0 where
 -- S and R of what was read
 abbrev pub struck_by_read : Read → Board → Board → ℕ
 struck_by_read (found.Command c) B B' = struck_by c B B'
-struck_by_read (found.Refused k n) B B' = 0
+struck_by_read (found.Refused k e) B B' = 0
 struck_by_read found.End B B' = 0
 
 abbrev pub reopened_by_read : Read → Board → Board → ℕ
 reopened_by_read (found.Command c) B B' = reopened_by c B B'
-reopened_by_read (found.Refused k n) B B' = 0
+reopened_by_read (found.Refused k e) B B' = 0
 reopened_by_read found.End B B' = 0
 
 -- all bytes of a sample's commands, one after another; and their sheet, where one is asked for

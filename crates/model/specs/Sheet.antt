@@ -11,7 +11,7 @@ use Rattle.model.specs.Commands.{kind_of, read_at}
 use Rattle.model.specs.Ledger.{Ledger, fresh, kind_conditions, obey}
 use Rattle.model.specs.Report.{struck_by, reopened_by}
 use Rattle.model.specs.Summary.{open_total}
-use Rattle.model.specs.Refusals.{first_of}
+use Rattle.model.specs.Refusals.{number, first_of}
 use Rattle.model.specs.Numbers as refused
 
 -- a number in decimal, of at most so many digits; no number here has more than four
@@ -72,12 +72,12 @@ decision_line (suc n) c B B' = refused_line (kind_of c) (suc n)
 -- the refusal of what was read, under the file's numbers or by the command's own conditions
 abbrev pub file_refusal : Ledger → Read → List ℕ → ℕ
 file_refusal L (found.Command c) ns = first_of (kind_conditions L c ns)
-file_refusal L (found.Refused k n) ns = n
+file_refusal L (found.Refused k e) ns = number e
 file_refusal L found.End ns = 0
 
 abbrev pub read_line : ℕ → Read → Board → Board → List ℕ
 read_line n (found.Command c) B B' = decision_line n c B B'
-read_line n (found.Refused k m) B B' = refused_line k m
+read_line n (found.Refused k e) B B' = refused_line k (number e)
 read_line n found.End B B' = []
 
 -- the longest input that is read (SCOPE 7.5)
@@ -87,7 +87,7 @@ input_most = 32768
 -- WHAT A FILE HOLDS: what is read from a place on, to the file's end or the first 3 or 4 (SCOPE 7.3). At most so many commands
 abbrev pub up_to_refusal : Decoded → Read → List Decoded → List Decoded
 up_to_refusal d (found.Command c) rest = d ∷ rest
-up_to_refusal d (found.Refused k n) rest = d ∷ []
+up_to_refusal d (found.Refused k e) rest = d ∷ []
 up_to_refusal d found.End rest = []
 
 abbrev pub reads_from : ℕ → List ℕ → ℕ → List Decoded

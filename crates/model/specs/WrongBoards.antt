@@ -1,8 +1,7 @@
 -- WRONG BOARDS: what is said of a board to show that the promise turns it away.
 use Rattle.std.specs.Prelude.{List, map, ℕ}
-use Rattle.model.specs.declared.answer.Answer.{Answer}
 use Rattle.model.specs.Ledger.{member}
-use Rattle.model.specs.Promise.{Promise}
+use Rattle.model.specs.Promise.{Answer, Promise}
 use Rattle.model.specs.Lists.{After}
 use Rattle.model.specs.Samples.{Sample}
 use Rattle.layout.specs.Memory.{Whole}

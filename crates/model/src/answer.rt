@@ -1,7 +1,8 @@
-// What commands and questions answer.
+// What commands and questions answer: a refusal, or the struct or the enum of their own.
 ghost use Rattle.std.specs.Prelude.{◌≡◌};
 ghost use Rattle.model.specs.Promise.{refused_with, accepted_with};
 
+use crate::refusal::Refusal;
 use layout::value::Value;
 
 // What an accepted command changed: S, R and T (SCOPE 3.7).
@@ -14,27 +15,20 @@ pub struct Report {
     pub touched: usize,
 }
 
-#[derive(Clone, Copy)]
-pub enum Answer {
-    Accepted(Report),
-    // the refusal's number
-    Refused(u8),
-}
-
 // The answer to a command, and the value that it leaves beside the buffers.
 #[derive(Clone, Copy)]
 pub struct Outcome {
-    pub answer: Answer,
+    pub answer: Result<Report, Refusal>,
     pub value: Value,
 }
 
 impl Outcome {
-    // Refused under the number n: the value as it was.
-    pub fn refused(n: u8, value: Value) -> Self
-        ensures { result ≡ refused_with n value }
+    // Refused: the value as it was.
+    pub fn refused(refusal: Refusal, value: Value) -> Self
+        ensures { result ≡ refused_with refusal value }
     {
         Self {
-            answer: Answer::Refused(n),
+            answer: Err(refusal),
             value,
         }
     }
@@ -49,7 +43,7 @@ impl Outcome {
             touched,
         };
         Self {
-            answer: Answer::Accepted(report),
+            answer: Ok(report),
             value,
         }
     }
@@ -57,10 +51,11 @@ impl Outcome {
 
 // The slots of a call.
 #[derive(Clone, Copy)]
-pub enum OpenSlots {
-    // a bit for each open slot, and the number of ones
-    Mask(u32, u32),
-    Refused(u8),
+pub struct OpenSlots {
+    // a bit for each open slot
+    pub mask: u32,
+    // how many there are
+    pub count: u32,
 }
 
 // The state of a slot.
@@ -71,7 +66,6 @@ pub enum SlotState {
     Struck(u8),
     // its call is cancelled
     Cancelled,
-    Refused(u8),
 }
 
 // The state of a row.
@@ -80,13 +74,4 @@ pub enum RowState {
     Alive,
     // its killer's column
     Killed(u8),
-    Refused(u8),
-}
-
-// The lowest living row that holds a slot in a column of a rule.
-#[derive(Clone, Copy)]
-pub enum Support {
-    Row(u8),
-    Nothing,
-    Refused(u8),
 }

@@ -1,5 +1,7 @@
 // The commands: what a file of them holds, and what stands at a place of it.
 
+use crate::refusal::Refusal;
+
 // The head of a rule: kind 2's body. Calls past the arity are 255.
 #[derive(Clone, Copy)]
 pub struct Head {
@@ -54,8 +56,8 @@ pub enum Command {
 #[derive(Clone, Copy)]
 pub enum Read {
     Command(Command),
-    // the kind's byte, and the refusal's number: 3 or 4
-    Refused(u8, u8),
+    // the kind's byte, and refusal 3 or 4
+    Refused(u8, Refusal),
     End,
 }
 

@@ -5,4 +5,4 @@
 
 pub mod command; // the commands
 pub mod answer; // what commands and questions answer
-pub mod refusal; // the numbers of the refusals, and the chain of checks
+pub mod refusal; // the refusals, and the check that gives one

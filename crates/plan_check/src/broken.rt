@@ -1,31 +1,21 @@
 // The rules of the board against a plan, from the lowest number up.
-ghost use Rattle.std.specs.Prelude.{◌≡◌, length};
-ghost use Rattle.layout.specs.Sizes.{rows_length};
-ghost use Rattle.plan_model.specs.Plans.{plan_size, rules_in, lowest_broken};
+ghost use Rattle.std.specs.Prelude.{◌≡◌};
+ghost use Rattle.plan_model.specs.Plans.{rules_in, lowest_broken};
 ghost use Rattle.plan_fit.specs.Parts.{rule_parts};
+ghost use Rattle.plan_model.specs.Check.{broken_answer};
 
+use layout::value::{Heads, ROWS};
 use plan_fit::breaks;
 
-// The lowest number of a rule that the plan breaks; 64 where it keeps them all.
-pub fn lowest_broken(
-    arity: &[u8; 64],
-    scope: &[u8; 256],
-    lengths: &[u8; 64],
-    rows: &[u8],
-    slots: &[u8],
-    plan: &[u8],
-) -> usize
-    requires rows_len { length rows.now ≡ rows_length }
-    requires plan_len { length plan.now ≡ plan_size }
+// The lowest number of a rule that the plan breaks; none where it keeps them all.
+pub fn lowest_broken(heads: &Heads, rows: &[u8; ROWS], slots: &[u8], plan: &[u8; 32]) -> Option<u8>
     ensures { result
-        ≡ lowest_broken (rules_in (rule_parts arity.now scope.now lengths.now rows.now slots.now)) plan.now }
+        ≡ broken_answer (lowest_broken (rules_in (rule_parts heads.now rows.now slots.now)) plan.now) }
 {
-    let mut p = 0;
-    while p < 64 {
-        if breaks(arity, scope, lengths, rows, slots, plan, p) {
-            return p;
+    for p in 0..64u8 {
+        if breaks(heads, rows, slots, plan, usize::from(p)) {
+            return Some(p);
         }
-        p += 1;
     }
-    64
+    None
 }

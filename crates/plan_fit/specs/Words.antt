@@ -2,16 +2,17 @@
 -- the byte 0 in what is compared.
 use Rattle.std.specs.Prelude.{◌≡◌, Bool, true, false, not, ◌&&◌, cond, List, ℕ, ◌+◌, ◌*◌, ◌<◌, ◌≤◌, length, get_or, T, eqb, ltb}
 use Rattle.std.specs.Int.Bits.{bit_and}
+use Rattle.layout.specs.declared.value.Heads.{Heads}
 use Rattle.layout.specs.Places.{row_start, columns_of, call_of, cancelled?}
 use Rattle.masks.specs.Columns.{word_at}
 
 -- THE CALL OF COLUMN k OF RULE p, and 255 where the column does not count: it is none of the rule's, or its call is cancelled
-unfoldable pub column_call : List ℕ → List ℕ → List ℕ → ℕ → ℕ → ℕ
-column_call arity scope slots p k = cond (ltb k (columns_of arity p) && not (cancelled? slots (call_of scope p k))) (call_of scope p k) 255
+unfoldable pub column_call : Heads → List ℕ → ℕ → ℕ → ℕ
+column_call heads slots p k = cond (ltb k (columns_of heads.arity p) && not (cancelled? slots (call_of heads.scope p k))) (call_of heads.scope p k) 255
 
-pub record ColumnCalls (arity scope slots : List ℕ) (p : ℕ) (calls : List ℕ) : Type 0 where
+pub record ColumnCalls (heads : Heads) (slots : List ℕ) (p : ℕ) (calls : List ℕ) : Type 0 where
   pub size : length calls ≡ 4
-  pub each : (k : ℕ) → k < 4 → get_or calls k 0 ≡ column_call arity scope slots p k
+  pub each : (k : ℕ) → k < 4 → get_or calls k 0 ≡ column_call heads slots p k
 
 -- what stands for a column in a word, by its call: all bits, or the plan's slot; 0 where the column does not count
 abbrev pub mask_byte : ℕ → ℕ
@@ -19,11 +20,6 @@ mask_byte call = cond (ltb call 32) 255 0
 
 abbrev pub plan_byte : List ℕ → ℕ → ℕ
 plan_byte plan call = cond (ltb call 32) (get_or plan call 0) 0
-
--- r is the byte v
-pub record IsByte (v r : ℕ) : Type 0 where
-  pub is : r ≡ v
-  pub small : r < 256
 
 -- r is the word of four calls, a byte for each
 pub record IsWord (calls : List ℕ) (byte : ℕ → ℕ) (r : ℕ) : Type 0 where

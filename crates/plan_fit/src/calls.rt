@@ -10,10 +10,9 @@ pub fn slots_for(counts: &[u8; 32], slots: &[u8], c: usize) -> u8
     requires { c < 32 }
     ensures { result ≡ slots_on_in (call_parts counts.now slots.now) c }
 {
-    let held = counts[c];
     if is_cancelled(slots, c as u8) {
         0
     } else {
-        held
+        counts[c]
     }
 }

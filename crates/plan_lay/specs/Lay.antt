@@ -1,35 +1,35 @@
 -- THE SEARCH BY THE TABLES: the task that they are, and its steps from a call and from a slot on.
-use Rattle.std.specs.Prelude.{◌≡◌, not, cond, List, [], ℕ, suc, ◌+◌, ◌-◌, ◌<◌, ◌≤◌, length, get_or, set, eqb, ltb}
+use Rattle.std.specs.Prelude.{◌≡◌, not, cond, List, ℕ, suc, ◌+◌, ◌-◌, ◌<◌, ◌≤◌, length, get_or, set, eqb, Option, Some, None}
 use Rattle.tables.specs.Masks.{bit_of}
 use Rattle.plan_model.specs.Plans.{plan_size}
 use Rattle.plan_search.specs.Search.{Result, nothing, Task, tries, search}
 use Rattle.plan_search.specs.First.{Ended, full, none, stopped, cut}
-use Rattle.layout.specs.Memory.{state_of_parts}
-use Rattle.plan_tables.specs.Lookup.{CallSlots, OpenMasks, CallTable}
+use Rattle.layout.specs.declared.value.Heads.{Heads}
+use Rattle.plan_fit.specs.Parts.{call_parts}
+use Rattle.plan_tables.specs.declared.lookup.Tables.{Tables}
+use Rattle.plan_tables.specs.Lookup.{CallSlots, OpenMasks, RuleColumns, RowWords}
 use Rattle.plan_tables.specs.Due.{DueRules}
 use Rattle.plan_tables.specs.Fit.{stays_by}
-use Rattle.plan_lay.specs.declared.first.Laid.{Laid}
 use Rattle.plan_lay.specs.declared.lay.Ending.{Ending}
 use Rattle.plan_lay.specs.declared.lay.Ending.TheVariants as ending
 
 -- THE TASK: the calls that have slots, the slots in each call's mask, and of the rules those that the call makes due
-abbrev pub table_task : List ℕ → List ℕ → List ℕ → List ℕ → Task
-table_task words lengths columns calls =
+abbrev pub table_task : Tables → Task
+table_task t =
     record {
-      lays = λ c. not (eqb (get_or calls (64 + c) 0) 0);
-      opens = λ c s. eqb (bit_of (get_or calls (32 + c) 0) s) 1;
-      stays = λ c plan. stays_by words lengths columns (get_or calls c 0) plan;
+      lays = λ c. not (eqb (get_or t.held c 0) 0);
+      opens = λ c s. eqb (bit_of (get_or t.opened c 0) s) 1;
+      stays = λ c plan. stays_by t (get_or t.due c 0) plan;
     }
 
--- the table of the calls is that of these slot counts and slot bytes, by the rules' columns
-pub record CallsOf (counts slots columns calls : List ℕ) : Type 0 where
-  pub held : List ℕ
-  pub opened : List ℕ
-  pub due : List ℕ
-  pub has : CallSlots (state_of_parts counts [] [] [] [] [] slots) held
-  pub masks : OpenMasks slots opened
-  pub dues : DueRules held columns 64 due
-  pub table : CallTable due opened held 32 calls
+-- the tables are those of these heads, rows and slots
+pub record TablesOf (heads : Heads) (rows slots : List ℕ) (t : Tables) : Type 0 where
+  pub words : RowWords rows heads.lengths t.columns 64 t.words
+  pub lengths : t.lengths ≡ heads.lengths
+  pub columns : RuleColumns heads slots t.columns
+  pub due : DueRules t.held t.columns 64 t.due
+  pub opened : OpenMasks slots t.opened
+  pub held : CallSlots (call_parts heads.counts slots) t.held
 
 -- THE STEPS: the calls from c on; the slots of call c from s on; and what is behind slot s of call c
 unfoldable pub calls_from : Task → ℕ → List ℕ → Result
@@ -41,21 +41,21 @@ tries_from t c s plan = tries t (λ laid. calls_from t (suc c) laid) c (32 - s) 
 unfoldable pub behind_slot : Task → ℕ → ℕ → List ℕ → Result
 behind_slot t c s plan = cond (t.stays c (set plan c s)) (calls_from t (c + 1) (set plan c s)) (nothing 0)
 
--- r is the first number of the mask from s on, or 32 and more
-pub record NextOpen (mask s r : ℕ) : Type 0 where
+-- r is the first number of the mask from s on, or 32 where there is none below it
+pub record FirstOpen (mask s r : ℕ) : Type 0 where
   pub from : s ≤ r
   pub closed : (i : ℕ) → s ≤ i → i < r → bit_of mask i ≡ 0
   pub here : r < 32 → bit_of mask r ≡ 1
+
+abbrev pub NextOpen : ℕ → ℕ → Option ℕ → Type 0
+NextOpen mask s None = FirstOpen mask s 32
+NextOpen mask s (Some r) = (r < 32) × FirstOpen mask s r
 
 -- HOW A STEP ENDED, by the code's word for it, with the plan and the trials that it made
 abbrev pub ended_with : Ending → List ℕ → ℕ → Ended
 ended_with ending.Found plan n = full plan n
 ended_with ending.Nothing plan n = none n
 ended_with ending.Stopped plan n = stopped
-
--- of the slots of a call, by the one that ended them, 32 where none did, and by what is left
-unfoldable pub ending_at : ℕ → ℕ → Ending
-ending_at s left = cond (ltb s 32) (cond (eqb left 0) ending.Stopped ending.Found) ending.Nothing
 
 -- nothing is left exactly where it stopped
 abbrev pub Rest : Ending → ℕ → Type 0
@@ -77,7 +77,3 @@ pub record StepEnded (r : Result) (left rest : ℕ) (back plan : List ℕ) (e : 
   pub remains : Rest e rest
   pub size : length plan ≡ plan_size
   pub undone : Undone e back plan
-
--- what the whole search ended with
-unfoldable pub ended_of : Laid → Ended
-ended_of r = ended_with r.ending r.plan r.trials

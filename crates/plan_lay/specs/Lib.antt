@@ -1,3 +1,2 @@
 pub mod Lay
-pub mod Parts
 pub mod Laws

@@ -8,31 +8,30 @@ mod first; // the search from the tables to the answer
 ghost use Rattle.layout.specs.Memory.{memory};
 ghost use Rattle.plan_search.specs.First.{FirstPromise};
 
-use crate::first::{board_refusal, lay_plan, plan_answer};
-use layout::value::Value;
-use plan_search::answer::{FirstPlan, PlanAnswer};
+use crate::first::lay_plan;
+use layout::value::{KILLERS, ROWS, SLOTS, Value};
+use model::refusal::Refusal;
+use plan_search::answer::FirstPlan;
 
-// The first full plan with the trials of the search; that there is none; or that the search needs more trials than the ceiling.
+// The first full plan with the trials of the search; that there is none; or that the search needs more trials than the ceiling. The checks of the question are 1 and 6.
 pub fn first_plan(
     value: Value,
     rows: &[u8],
     killers: &[u8],
     slots: &[u8],
     ceiling: u32,
-) -> PlanAnswer
+) -> Result<FirstPlan, Refusal>
     ensures { FirstPromise (memory value rows.now killers.now slots.now) ceiling result }
 {
-    let counts = value.heads.counts;
-    let arity = value.heads.arity;
-    let scope = value.heads.scope;
-    let lengths = value.heads.lengths;
-    let refusal = board_refusal(&counts, rows, killers, slots);
-    if refusal != 0 {
-        return PlanAnswer {
-            answer: FirstPlan::Refused(refusal),
-            plan: [255u8; 32],
-        };
+    let (Some(rows), Some(_), Some(slots)) = (
+        rows.as_array::<ROWS>(),
+        killers.as_array::<KILLERS>(),
+        slots.as_array::<SLOTS>(),
+    ) else {
+        return Err(Refusal::BufferLength);
+    };
+    if value.heads.counts[0] == 0 {
+        return Err(Refusal::NoBoard);
     }
-    let laid = lay_plan(&counts, &arity, &scope, &lengths, rows, slots, ceiling);
-    plan_answer(laid, ceiling)
+    Ok(lay_plan(&value.heads, rows, slots, ceiling))
 }

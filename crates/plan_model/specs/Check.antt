@@ -1,6 +1,6 @@
 -- THE CHECK OF A PLAN FROM ELSEWHERE (SCOPE 5.7, order 10): an equation that holds whatever the memory holds, and what the answer means on a state that is a ledger's.
 -- Laws.Check proves that the second follows from the first.
-use Rattle.std.specs.Prelude.{◌≡◌, Bool, not, cond, List, [], ◌∷◌, ◌++◌, ℕ, zero, suc, ◌<◌, length, eqb, ltb, leb}
+use Rattle.std.specs.Prelude.{◌≡◌, Bool, not, cond, List, [], ◌∷◌, ◌++◌, ℕ, ◌<◌, length, eqb, ltb, leb, Option, Some, None, Result, Ok, Err}
 use Rattle.layout.specs.Memory.{State, lent_of}
 use Rattle.layout.specs.Sizes.{Lent}
 use Rattle.model.specs.Board.{Rule, Board, InForce, Active, RowFits, KeepsRule, FullPlan, slots_on}
@@ -8,11 +8,10 @@ use Rattle.model.specs.Tests.{some?}
 use Rattle.model.specs.Ledger.{Ledger, LedgerShape, no_board?}
 use Rattle.model.specs.Representation.{no_calls?, Represents}
 use Rattle.model.specs.Promise.{values_at}
-use Rattle.model.specs.Refusals.{first_of}
+use Rattle.model.specs.Refusals.{first_of, number_of, AnsweredBy}
 use Rattle.model.specs.Questions.{asked_conditions}
 use Rattle.model.specs.Numbers as refused
-use Rattle.plan_model.specs.declared.answer.PlanCheck.{PlanCheck}
-use Rattle.plan_model.specs.declared.answer.PlanCheck.TheVariants as plan
+use Rattle.model.specs.declared.refusal.Refusal.{Refusal}
 use Rattle.plan_model.specs.Plans.{plan_size, slot_in, slots_on_in, rules_of, rules_in, lowest_broken}
 
 -- 32: the plan is not 32 bytes
@@ -40,32 +39,26 @@ plan_checks s bytes =
     ++ ((bad_plan_length? bytes, refused.plan_length) ∷ (no_calls? s.value.heads.counts, refused.no_board) ∷ (wrong_plan? (slots_on_in s) bytes, refused.bad_plan_byte)
     ∷ [])
 
--- THE NUMBER AND VALUES of the answer (SCOPE 10.5)
-abbrev pub plan_number : PlanCheck → ℕ
-plan_number plan.Kept = 0
-plan_number (plan.Broken p) = 0
-plan_number (plan.Refused n) = n
+-- THE ANSWER: the lowest number of a rule in force that the plan breaks, or none where it keeps them all
+abbrev pub PlanCheck : Type 0
+PlanCheck = Result (Option ℕ) Refusal
 
--- the number of the broken rule; 255, which is no rule's, where the plan is kept
+-- its values (SCOPE 10.5): the number of the broken rule; 255, which is no rule's, where the plan is kept
 abbrev pub plan_values : PlanCheck → List ℕ
-plan_values plan.Kept = 255 ∷ []
-plan_values (plan.Broken p) = p ∷ []
-plan_values (plan.Refused n) = []
+plan_values (Ok None) = 255 ∷ []
+plan_values (Ok (Some p)) = p ∷ []
+plan_values (Err e) = []
 
 -- the lowest broken rule as an answer, and as a value: 64 stands for none
-abbrev pub broken_answer : ℕ → PlanCheck
-broken_answer p = cond (ltb p 64) (plan.Broken p) plan.Kept
+abbrev pub broken_answer : ℕ → Option ℕ
+broken_answer p = cond (ltb p 64) (Some p) None
 
 abbrev pub broken_value : ℕ → ℕ
 broken_value p = cond (ltb p 64) p 255
 
--- the answer by its refusal's number
-abbrev pub plan_by : ℕ → ℕ → PlanCheck
-plan_by zero p = broken_answer p
-plan_by (suc n) p = plan.Refused (suc n)
-
-abbrev pub plan_answer : State → List ℕ → PlanCheck
-plan_answer s bytes = plan_by (first_of (plan_checks s bytes)) (lowest_broken (rules_in s) bytes)
+-- off the value and the bytes
+abbrev pub plan_shown : State → List ℕ → Option ℕ
+plan_shown s bytes = broken_answer (lowest_broken (rules_in s) bytes)
 
 -- a plan BREAKS the rule in force under p: it has an active column, and no row fits
 pub record BreaksRule (B : Board) (chosen : ℕ → ℕ) (p : ℕ) : Type 0 where
@@ -82,15 +75,15 @@ pub record LowestBroken (B : Board) (chosen : ℕ → ℕ) (p : ℕ) : Type 0 wh
 
 -- what it says of the board: a kept plan is a full one, and else the rule named is the lowest that it breaks
 abbrev pub PlanMeans : Board → List ℕ → PlanCheck → Type 0
-PlanMeans B bytes plan.Kept = FullPlan B (slot_in bytes)
-PlanMeans B bytes (plan.Broken p) = LowestBroken B (slot_in bytes) p
-PlanMeans B bytes (plan.Refused n) = ⊥
+PlanMeans B bytes (Ok None) = FullPlan B (slot_in bytes)
+PlanMeans B bytes (Ok (Some p)) = LowestBroken B (slot_in bytes) p
+PlanMeans B bytes (Err e) = ⊥
 
 pub record PlanAnswered (L : Ledger) (s : State) (bytes : List ℕ) (given : PlanCheck) : Type 0 where
-  pub number : plan_number given ≡ first_of (plan_conditions L (lent_of s) bytes)
+  pub number : number_of given ≡ first_of (plan_conditions L (lent_of s) bytes)
   pub values : plan_values given ≡ values_at (first_of (plan_conditions L (lent_of s) bytes)) (broken_value (lowest_broken (rules_of L.board) bytes) ∷ [])
   pub means : first_of (plan_conditions L (lent_of s) bytes) ≡ 0 → PlanMeans L.board bytes given
 
 pub record PlanPromise (s : State) (bytes : List ℕ) (given : PlanCheck) : Type 0 where
-  pub equation : given ≡ plan_answer s bytes
+  pub equation : AnsweredBy (first_of (plan_checks s bytes)) (plan_shown s bytes) given
   pub answered : (L : Ledger) → LedgerShape L → Represents L s → PlanAnswered L s bytes given

@@ -1,6 +1,6 @@
 -- THE QUESTION FOR THE FIRST FULL PLAN (SCOPE 5.9, 5.10, order 8): an equation that holds whatever the memory holds, and what the answer means on a state that is a
 -- ledger's. Laws.First proves that the second follows from the first.
-use Rattle.std.specs.Prelude.{◌≡◌, not, ◌&&◌, cond, List, [], ◌∷◌, ℕ, zero, suc, ◌<◌, ◌≤◌, length, replicate, eqb, ltb, leb}
+use Rattle.std.specs.Prelude.{◌≡◌, not, ◌&&◌, cond, List, [], ◌∷◌, ℕ, zero, suc, ◌<◌, ◌≤◌, length, replicate, eqb, ltb, leb, Ok, Err}
 use Rattle.layout.specs.Memory.{State, lent_of}
 use Rattle.model.specs.Board.{Board, live?, no_slot_given, FullPlan}
 use Rattle.model.specs.Filter.{in?, open_of}
@@ -8,12 +8,13 @@ use Rattle.model.specs.Report.{open?}
 use Rattle.model.specs.Ledger.{Ledger, LedgerShape}
 use Rattle.model.specs.Representation.{Represents}
 use Rattle.model.specs.Promise.{values_at}
-use Rattle.model.specs.Refusals.{first_of}
+use Rattle.model.specs.Refusals.{first_of, number_of, AnsweredBy}
 use Rattle.model.specs.Questions.{board_conditions, board_checks}
 use Rattle.plan_model.specs.Plans.{plan_size, slot_in, rules_of, rules_in, slots_on_in}
 use Rattle.plan_search.specs.declared.answer.FirstPlan.{FirstPlan}
 use Rattle.plan_search.specs.declared.answer.FirstPlan.TheVariants as first
-use Rattle.plan_search.specs.declared.answer.PlanAnswer.{PlanAnswer}
+use Rattle.model.specs.declared.refusal.Refusal.{Refusal}
+use Rattle.std.specs.Prelude as answer
 use Rattle.plan_search.specs.Search.{Result, found, nothing, Task, search, stays?}
 
 -- the plan in which no call is laid (SCOPE 1.24)
@@ -53,33 +54,28 @@ cut ceiling (found plan n) = cond (leb n ceiling) (full plan n) stopped
 cut ceiling (nothing n) = cond (leb n ceiling) (none n) stopped
 
 -- what a search that ended so answers; the count of one that was stopped is the ceiling
-abbrev pub ended_answer : ℕ → Ended → PlanAnswer
-ended_answer ceiling (full plan n) = record { answer = first.Found n; plan = plan }
-ended_answer ceiling (none n) = record { answer = first.Nothing n; plan = no_plan }
-ended_answer ceiling stopped = record { answer = first.Stopped ceiling; plan = no_plan }
+abbrev pub ended_answer : ℕ → Ended → FirstPlan
+ended_answer ceiling (full plan n) = first.Found n plan
+ended_answer ceiling (none n) = first.Nothing n
+ended_answer ceiling stopped = first.Stopped ceiling
 
--- the answer by its refusal's number
-abbrev pub first_by : ℕ → ℕ → Result → PlanAnswer
-first_by zero ceiling r = ended_answer ceiling (cut ceiling r)
-first_by (suc n) ceiling r = record { answer = first.Refused (suc n); plan = no_plan }
+-- off the value and the bytes it is the search's, cut at the ceiling, once 1 and 6 are checked
+abbrev pub first_shown : State → ℕ → FirstPlan
+first_shown s ceiling = ended_answer ceiling (cut ceiling (search_all (memory_task s)))
 
--- THE ANSWER off the value and the bytes: 1 and 6 are checked, and then it is the search's, cut at the ceiling
-abbrev pub first_answer : State → ℕ → PlanAnswer
-first_answer s ceiling = first_by (first_of (board_checks s)) ceiling (search_all (memory_task s))
+-- THE VALUES of the answer (SCOPE 10.5): how the search ended, 1 with a plan, 0 with none and 2 at the ceiling, and the count; the plan's bytes stand beside them
+abbrev pub first_values : answer.Result FirstPlan Refusal → List ℕ
+first_values (Ok (first.Found n plan)) = 1 ∷ n ∷ []
+first_values (Ok (first.Nothing n)) = 0 ∷ n ∷ []
+first_values (Ok (first.Stopped n)) = 2 ∷ n ∷ []
+first_values (Err e) = []
 
--- THE NUMBER AND VALUES of the answer (SCOPE 10.5)
-abbrev pub first_number : FirstPlan → ℕ
-first_number (first.Found n) = 0
-first_number (first.Nothing n) = 0
-first_number (first.Stopped n) = 0
-first_number (first.Refused n) = n
-
--- how the search ended, 1 with a plan, 0 with none and 2 at the ceiling, and the count; the plan's bytes stand beside them
-abbrev pub first_values : FirstPlan → List ℕ
-first_values (first.Found n) = 1 ∷ n ∷ []
-first_values (first.Nothing n) = 0 ∷ n ∷ []
-first_values (first.Stopped n) = 2 ∷ n ∷ []
-first_values (first.Refused n) = []
+-- those bytes: 255 throughout where no plan is found
+abbrev pub first_bytes : answer.Result FirstPlan Refusal → List ℕ
+first_bytes (Ok (first.Found n plan)) = plan
+first_bytes (Ok (first.Nothing n)) = no_plan
+first_bytes (Ok (first.Stopped n)) = no_plan
+first_bytes (Err e) = no_plan
 
 -- plan P comes BEFORE plan Q among the first n calls: at the first of them where they differ it has the lower slot
 pub record Before (n : ℕ) (P Q : ℕ → ℕ) : Type 0 where
@@ -98,35 +94,33 @@ pub record FoundFirst (B : Board) (ceiling : ℕ) (plan : List ℕ) (n : ℕ) : 
   pub earliest : (P : ℕ → ℕ) → FullPlan B P → Before (length B.counts) P (slot_in plan) → ⊥
 
 -- NONE after n trials: there is no full plan
-pub record FoundNone (B : Board) (ceiling : ℕ) (plan : List ℕ) (n : ℕ) : Type 0 where
+pub record FoundNone (B : Board) (ceiling : ℕ) (n : ℕ) : Type 0 where
   pub count : n ≡ trials (search_all (board_task B))
   pub within : n ≤ ceiling
   pub never : (P : ℕ → ℕ) → FullPlan B P → ⊥
-  pub blank : plan ≡ no_plan
 
 -- STOPPED (SCOPE 5.10): the search needs more trials than the ceiling, which is the count here
-pub record StoppedShort (B : Board) (ceiling : ℕ) (plan : List ℕ) (n : ℕ) : Type 0 where
+pub record StoppedShort (B : Board) (ceiling : ℕ) (n : ℕ) : Type 0 where
   pub count : n ≡ ceiling
   pub more : ceiling < trials (search_all (board_task B))
-  pub blank : plan ≡ no_plan
 
 -- what the answer says of the board
-abbrev pub FirstMeans : Board → ℕ → List ℕ → FirstPlan → Type 0
-FirstMeans B ceiling plan (first.Found n) = FoundFirst B ceiling plan n
-FirstMeans B ceiling plan (first.Nothing n) = FoundNone B ceiling plan n
-FirstMeans B ceiling plan (first.Stopped n) = StoppedShort B ceiling plan n
-FirstMeans B ceiling plan (first.Refused n) = ⊥
+abbrev pub FirstMeans : Board → ℕ → answer.Result FirstPlan Refusal → Type 0
+FirstMeans B ceiling (Ok (first.Found n plan)) = FoundFirst B ceiling plan n
+FirstMeans B ceiling (Ok (first.Nothing n)) = FoundNone B ceiling n
+FirstMeans B ceiling (Ok (first.Stopped n)) = StoppedShort B ceiling n
+FirstMeans B ceiling (Err e) = ⊥
 
-pub record FirstAnswered (L : Ledger) (s : State) (ceiling : ℕ) (given : PlanAnswer) : Type 0 where
-  pub number : first_number given.answer ≡ first_of (board_conditions L (lent_of s))
-  pub values : first_values given.answer
-      ≡ values_at (first_of (board_conditions L (lent_of s))) (first_values (ended_answer ceiling (cut ceiling (search_all (board_task L.board)))).answer)
+pub record FirstAnswered (L : Ledger) (s : State) (ceiling : ℕ) (given : answer.Result FirstPlan Refusal) : Type 0 where
+  pub number : number_of given ≡ first_of (board_conditions L (lent_of s))
+  pub values : first_values given
+      ≡ values_at (first_of (board_conditions L (lent_of s))) (first_values (Ok (ended_answer ceiling (cut ceiling (search_all (board_task L.board))))))
   -- a refusal has no plan
-  pub refused : (n : ℕ) → first_of (board_conditions L (lent_of s)) ≡ suc n → given.plan ≡ no_plan
+  pub refused : (n : ℕ) → first_of (board_conditions L (lent_of s)) ≡ suc n → first_bytes given ≡ no_plan
   -- the count and every byte, off the board alone
-  pub searched : first_of (board_conditions L (lent_of s)) ≡ 0 → given ≡ ended_answer ceiling (cut ceiling (search_all (board_task L.board)))
-  pub means : first_of (board_conditions L (lent_of s)) ≡ 0 → FirstMeans L.board ceiling given.plan given.answer
+  pub searched : first_of (board_conditions L (lent_of s)) ≡ 0 → given ≡ Ok (ended_answer ceiling (cut ceiling (search_all (board_task L.board))))
+  pub means : first_of (board_conditions L (lent_of s)) ≡ 0 → FirstMeans L.board ceiling given
 
-pub record FirstPromise (s : State) (ceiling : ℕ) (given : PlanAnswer) : Type 0 where
-  pub equation : given ≡ first_answer s ceiling
+pub record FirstPromise (s : State) (ceiling : ℕ) (given : answer.Result FirstPlan Refusal) : Type 0 where
+  pub equation : AnsweredBy (first_of (board_checks s)) (first_shown s ceiling) given
   pub answered : (L : Ledger) → LedgerShape L → Represents L s → FirstAnswered L s ceiling given

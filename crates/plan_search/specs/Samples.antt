@@ -1,11 +1,12 @@
 -- THE SAMPLE SEARCHES S1 TO S8 (SCOPE 8.53 to 8.60): commands' bytes, a ceiling, and the number, the values and the plan of the answer that is to come of them.
-use Rattle.std.specs.Prelude.{List, [], ◌∷◌, ◌++◌, map, ℕ}
+use Rattle.std.specs.Prelude.{List, [], ◌∷◌, ◌++◌, map, ℕ, zero, suc, Ok}
 use Rattle.model.specs.Ledger.{Ledger, lengths}
+use Rattle.model.specs.Promise.{values_at}
 use Rattle.model.specs.Refusals.{first_of}
 use Rattle.model.specs.Questions.{board_conditions}
 use Rattle.model.specs.Samples.{board_bytes, head_bytes, row_bytes, post_bytes, cancel_bytes, p1_before}
 use Rattle.plan_model.specs.Samples.{plan_of}
-use Rattle.plan_search.specs.First.{no_plan, board_task, search_all, first_by, first_number, first_values}
+use Rattle.plan_search.specs.First.{no_plan, board_task, search_all, cut, ended_answer, first_values, first_bytes}
 
 -- number, values and plan of an answer
 pub record FirstOutcome : Type 0 where
@@ -18,11 +19,17 @@ pub record FirstSample : Type 0 where
   pub ceiling : ℕ
   pub outcome : FirstOutcome
 
+-- the plan's bytes go with the number 0 alone
+abbrev pub bytes_at : ℕ → List ℕ → List ℕ
+bytes_at zero plan = plan
+bytes_at (suc n) plan = no_plan
+
 -- what the definitions give
 abbrev pub first_outcome : Ledger → ℕ → FirstOutcome
 first_outcome L ceiling =
-    let given = first_by (first_of (board_conditions L lengths.buffers)) ceiling (search_all (board_task L.board)) in
-    record { number = first_number given.answer; values = first_values given.answer; plan = given.plan }
+    let n = first_of (board_conditions L lengths.buffers) in
+    let shown = ended_answer ceiling (cut ceiling (search_all (board_task L.board))) in
+    record { number = n; values = values_at n (first_values (Ok shown)); plan = bytes_at n (first_bytes (Ok shown)) }
 
 abbrev pub finds_plan : List (List ℕ) → ℕ → List ℕ → ℕ → FirstSample
 finds_plan commands ceiling slots count =

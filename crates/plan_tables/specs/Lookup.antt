@@ -3,6 +3,7 @@ use Rattle.std.specs.Prelude.{◌≡◌, List, [], ◌∷◌, ℕ, ◌+◌, ◌*
 use Rattle.tables.specs.Masks.{IsMask}
 use Rattle.std.specs.Int.Bits.{bit_and}
 use Rattle.layout.specs.Places.{cause_of, row_start, rows_of}
+use Rattle.layout.specs.declared.value.Heads.{Heads}
 use Rattle.layout.specs.Memory.{State}
 use Rattle.plan_model.specs.Plans.{slots_on_in}
 use Rattle.masks.specs.Columns.{word_at}
@@ -22,8 +23,8 @@ abbrev pub OpenMasks : List ℕ → List ℕ → Type 0
 OpenMasks slots opened = Entries (λ c m. IsMask (λ s. cause_of slots c s ≡ 255) 32 m) 32 32 opened
 
 -- the call of each column of each rule, 255 where the column does not count: four entries to a rule
-abbrev pub RuleColumns : List ℕ → List ℕ → List ℕ → List ℕ → Type 0
-RuleColumns arity scope slots columns = Entries (λ i v. v ≡ column_call arity scope slots (i / 4) (i % 4)) 256 256 columns
+abbrev pub RuleColumns : Heads → List ℕ → List ℕ → Type 0
+RuleColumns heads slots columns = Entries (λ i v. v ≡ column_call heads slots (i / 4) (i % 4)) 256 256 columns
 
 -- those of rule p
 abbrev pub columns_at : List ℕ → ℕ → List ℕ
@@ -34,13 +35,6 @@ abbrev pub mask_by : List ℕ → ℕ → ℕ
 mask_by columns p =
     mask_byte (get_or columns (4 * p) 0) + 256 * mask_byte (get_or columns (4 * p + 1) 0) + 65536 * mask_byte (get_or columns (4 * p + 2) 0)
     + 16777216 * mask_byte (get_or columns (4 * p + 3) 0)
-
--- WHAT IS LOOKED UP OF EACH CALL, of the first n, in one table: the rules that it makes due, its open slots, and its slots in a plan
-pub record CallTable (due opened held : List ℕ) (n : ℕ) (table : List ℕ) : Type 0 where
-  pub long : length table ≡ 96
-  pub dues : (c : ℕ) → c < n → get_or table c 0 ≡ get_or due c 0
-  pub opens : (c : ℕ) → c < n → get_or table (32 + c) 0 ≡ get_or opened c 0
-  pub lays : (c : ℕ) → c < n → get_or table (64 + c) 0 ≡ get_or held c 0
 
 -- A WORD FOR EACH ROW that there can be, 64 to a rule
 abbrev pub words_length : ℕ

@@ -4,57 +4,43 @@ ghost use Rattle.layout.specs.Places.{rows_of};
 ghost use Rattle.model.specs.Tests.{some?};
 ghost use Rattle.plan_tables.specs.Fit.{fitted_by, stays_by};
 
-use crate::lookup::{WORDS, columns_at};
+use crate::lookup::{Tables, columns_at};
 use layout::places::cap;
 use plan_fit::columns::plan_word;
 
 // Some row of rule p is the wanted word. Without a branch, so that the compiler compares several rows at once.
-fn has_word(words: &[u32; WORDS], lengths: &[u8; 64], p: usize, wanted: u32) -> bool
+fn has_word(tables: &Tables, p: usize, wanted: u32) -> bool
     requires { p < 64 }
-    ensures { result ≡ some? (rows_of lengths.now p) (λ w. eqb (get_or words.now (64 * p + w) 0) wanted) }
+    ensures { result ≡ some? (rows_of tables.now.lengths p) (λ w. eqb (get_or tables.now.words (64 * p + w) 0) wanted) }
 {
-    let held = cap(lengths[p], 64);
+    let held = cap(tables.lengths[p], 64);
     let mut found = false;
-    let mut w = 0;
-    while w < held {
-        found = found | (words[64 * p + w] == wanted);
-        w += 1;
+    for w in 0..held {
+        found |= tables.words[64 * p + w] == wanted;
     }
     found
 }
 
 // Some row of rule p has the plan's slots in the columns that count.
-fn rule_fits(
-    words: &[u32; WORDS],
-    lengths: &[u8; 64],
-    columns: &[u8; 256],
-    plan: &[u8; 32],
-    p: usize,
-) -> bool
+fn rule_fits(tables: &Tables, plan: &[u8; 32], p: usize) -> bool
     requires { p < 64 }
-    ensures { result ≡ fitted_by words.now lengths.now columns.now plan.now p }
+    ensures { result ≡ fitted_by tables.now plan.now p }
 {
-    let wanted = plan_word(plan, columns_at(columns, p));
-    has_word(words, lengths, p, wanted)
+    let wanted = plan_word(plan, columns_at(&tables.columns, p));
+    has_word(tables, p, wanted)
 }
 
 // The same for every rule of the mask.
-pub fn rules_fit(
-    words: &[u32; WORDS],
-    lengths: &[u8; 64],
-    columns: &[u8; 256],
-    plan: &[u8; 32],
-    rules: u64,
-) -> bool
-    ensures { result ≡ stays_by words.now lengths.now columns.now rules plan.now }
+pub fn rules_fit(tables: &Tables, plan: &[u8; 32], rules: u64) -> bool
+    ensures { result ≡ stays_by tables.now rules plan.now }
 {
     let mut left = rules;
     while left != 0 {
-        let p = u64::trailing_zeros(left) as usize;
-        if !rule_fits(words, lengths, columns, plan, p) {
+        let p = left.trailing_zeros() as usize;
+        if !rule_fits(tables, plan, p) {
             return false;
         }
-        left = left & (left - 1);
+        left &= left - 1;
     }
     true
 }

@@ -10,23 +10,29 @@ ghost use Rattle.model.specs.Questions.{SlotsPromise, StatePromise, RowPromise, 
 ghost use Rattle.layout.specs.Memory.{memory};
 ghost use Rattle.questions.specs.RowPart.{RowPart};
 
-use crate::read::{lowest_support, open_mask};
+use crate::read::{call_of, lowest_support, open_mask};
 use crate::refusal::{call_refusal, row_refusal, slot_refusal, support_refusal};
 use layout::places::{CANCELLED, byte_at, is_cancelled};
 use layout::value::Value;
-use model::answer::{OpenSlots, RowState, SlotState, Support};
+use model::answer::{OpenSlots, RowState, SlotState};
+use model::refusal::Refusal;
 
 // The mask of a call's open slots, with the number of its ones.
-pub fn open_slots(value: Value, rows: &[u8], killers: &[u8], slots: &[u8], call: u8) -> OpenSlots
+pub fn open_slots(
+    value: Value,
+    rows: &[u8],
+    killers: &[u8],
+    slots: &[u8],
+    call: u8,
+) -> Result<OpenSlots, Refusal>
     ensures { SlotsPromise (memory value rows.now killers.now slots.now) call result }
 {
-    let counts = value.heads.counts;
-    let refusal = call_refusal(&counts, rows, killers, slots, call);
-    if refusal != 0 {
-        return OpenSlots::Refused(refusal);
-    }
+    call_refusal(&value.heads, rows, killers, slots, call)?;
     let mask = open_mask(slots, call);
-    OpenSlots::Mask(mask, u32::count_ones(mask))
+    Ok(OpenSlots {
+        mask,
+        count: mask.count_ones(),
+    })
 }
 
 // Open, struck with its cause, or of a cancelled call.
@@ -37,23 +43,15 @@ pub fn slot_state(
     slots: &[u8],
     call: u8,
     slot: u8,
-) -> SlotState
+) -> Result<SlotState, Refusal>
     ensures { StatePromise (memory value rows.now killers.now slots.now) call slot result }
 {
-    let counts = value.heads.counts;
-    let refusal = slot_refusal(&counts, rows, killers, slots, call, slot);
-    if refusal != 0 {
-        return SlotState::Refused(refusal);
-    }
+    slot_refusal(&value.heads, rows, killers, slots, call, slot)?;
     // a value that the host altered may count more than 32 slots, so the place may lie past the buffer
-    let byte = byte_at(slots, 32 * (call as usize) + (slot as usize));
-    if byte == 255 {
-        return SlotState::Open;
-    }
-    if byte == CANCELLED {
-        SlotState::Cancelled
-    } else {
-        SlotState::Struck(byte)
+    match byte_at(slots, 32 * usize::from(call) + usize::from(slot)) {
+        255 => Ok(SlotState::Open),
+        CANCELLED => Ok(SlotState::Cancelled),
+        byte => Ok(SlotState::Struck(byte)),
     }
 }
 
@@ -65,21 +63,13 @@ pub fn row_state(
     slots: &[u8],
     rule: u8,
     row: u8,
-) -> RowState
+) -> Result<RowState, Refusal>
     ensures { RowPromise (memory value rows.now killers.now slots.now) rule row result }
 {
-    let counts = value.heads.counts;
-    let arity = value.heads.arity;
-    let lengths = value.heads.lengths;
-    let refusal = row_refusal(&counts, &arity, &lengths, rows, killers, slots, rule, row);
-    if refusal != 0 {
-        return RowState::Refused(refusal);
-    }
-    let byte = killers[64 * (rule as usize) + (row as usize)];
-    if byte == 255 {
-        RowState::Alive
-    } else {
-        RowState::Killed(byte)
+    row_refusal(&value.heads, rows, killers, slots, rule, row)?;
+    match killers[64 * usize::from(rule) + usize::from(row)] {
+        255 => Ok(RowState::Alive),
+        byte => Ok(RowState::Killed(byte)),
     }
 }
 
@@ -94,14 +84,10 @@ pub fn row_bytes<'a>(
 ) -> &'a [u8]
     ensures { RowPart value rows.entry killers.now slots.now rule row result }
 {
-    let counts = value.heads.counts;
-    let arity = value.heads.arity;
-    let lengths = value.heads.lengths;
-    let refusal = row_refusal(&counts, &arity, &lengths, rows, killers, slots, rule, row);
-    if refusal != 0 {
+    if row_refusal(&value.heads, rows, killers, slots, rule, row).is_err() {
         return &rows[..0];
     }
-    let start = 256 * (rule as usize) + 4 * (row as usize);
+    let start = 256 * usize::from(rule) + 4 * usize::from(row);
     &rows[start..start + 4]
 }
 
@@ -114,24 +100,12 @@ pub fn support(
     rule: u8,
     column: u8,
     slot: u8,
-) -> Support
+) -> Result<Option<u8>, Refusal>
     ensures { SupportPromise (memory value rows.now killers.now slots.now) rule column slot result }
 {
-    let counts = value.heads.counts;
-    let arity = value.heads.arity;
-    let scope = value.heads.scope;
-    let lengths = value.heads.lengths;
-    let refusal = support_refusal(
-        &counts, &arity, &scope, rows, killers, slots, rule, column, slot,
-    );
-    if refusal != 0 {
-        return Support::Refused(refusal);
+    support_refusal(&value.heads, rows, killers, slots, rule, column, slot)?;
+    if is_cancelled(slots, call_of(&value.heads, rule, column)) {
+        return Ok(None);
     }
-    if is_cancelled(
-        slots,
-        byte_at(&scope, 4 * (rule as usize) + (column as usize)),
-    ) {
-        return Support::Nothing;
-    }
-    lowest_support(rows, killers, &lengths, rule, column, slot)
+    Ok(lowest_support(&value.heads, rows, killers, rule, column, slot))
 }

@@ -1,98 +1,83 @@
 // What the questions read: bytes of the value and of the lent buffers.
-ghost use Rattle.std.specs.Prelude.{cond, ◌≡◌, ◌+◌, eqb};
-ghost use Rattle.layout.specs.Places.{columns_of, rows_of};
-ghost use Rattle.model.specs.Tests.{first};
+ghost use Rattle.std.specs.Prelude.{◌≡◌, ◌+◌, [], get_or};
+ghost use Rattle.layout.specs.Memory.{state_of_heads};
+ghost use Rattle.layout.specs.Places.{columns_of, rows_of, scope_place};
 ghost use Rattle.model.specs.Report.{open?};
-ghost use Rattle.model.specs.Questions.{mask_of, supports?};
-ghost use Rattle.questions.specs.Parts.{search_parts, Searchable, length_parts, active_support};
+ghost use Rattle.model.specs.Questions.{slots_held, mask_of, supports?};
+ghost use Rattle.questions.specs.Parts.{search_parts, Searchable, active_support};
 
 use crate::weights::slot_weights;
-use layout::places::{byte_at, cap};
-use model::answer::Support;
+use layout::places::byte_at;
+use layout::value::Heads;
+
+// The slots of a call; 0 where there is no such call.
+pub fn slots_held(heads: &Heads, call: u8) -> u8
+    ensures { result ≡ slots_held heads.now call }
+{
+    byte_at(&heads.counts, usize::from(call))
+}
 
 // The columns of a rule; 0 where the number is not in force.
-pub fn columns_of(arity: &[u8; 64], rule: u8) -> usize
-    ensures { result ≡ columns_of arity.now rule }
+pub fn columns_of(heads: &Heads, rule: u8) -> u8
+    ensures { result ≡ columns_of heads.now.arity rule }
 {
-    cap(byte_at(arity, rule as usize), 4)
+    byte_at(&heads.arity, usize::from(rule)).min(4)
 }
 
 // The rows of a rule.
-pub fn rows_of(lengths: &[u8; 64], rule: u8) -> usize
-    ensures { result ≡ rows_of lengths.now rule }
+pub fn rows_of(heads: &Heads, rule: u8) -> u8
+    ensures { result ≡ rows_of heads.now.lengths rule }
 {
-    cap(byte_at(lengths, rule as usize), 64)
+    byte_at(&heads.lengths, usize::from(rule)).min(64)
 }
 
-// What a slot with this byte and this weight adds to a mask: its weight if it is open.
-fn if_open(byte: u8, weight: u32) -> u32
-    ensures { result ≡ cond (eqb byte 255) weight 0 }
+// The call of a rule's column.
+pub fn call_of(heads: &Heads, rule: u8, column: u8) -> u8
+    ensures { result ≡ get_or heads.now.scope (scope_place rule column) 0 }
 {
-    if byte == 255 { weight } else { 0 }
+    byte_at(&heads.scope, 4 * usize::from(rule) + usize::from(column))
 }
 
 // The mask of a call's open slots: the sum of their weights.
 pub fn open_mask(slots: &[u8], call: u8) -> u32
     ensures { result ≡ mask_of 32 (open? slots.now call) }
 {
-    let base = 32 * (call as usize);
+    let base = 32 * usize::from(call);
     let weights = slot_weights();
-    let mut mask: u32 = 0;
-    let mut s: usize = 0;
-    while s < 32 {
-        mask += if_open(byte_at(slots, base + s), weights[s]);
-        s += 1;
+    let mut mask = 0;
+    for s in 0..32 {
+        if byte_at(slots, base + s) == 255 {
+            mask += weights[s];
+        }
     }
     mask
 }
 
-// Row w of the rule is alive and holds the slot in the column.
-fn supports(rows: &[u8], killers: &[u8], rule: usize, w: usize, column: usize, slot: u8) -> bool
-    requires { Searchable rows.now killers.now rule (w + 1) column }
-    ensures { result ≡ supports? (search_parts rows.now killers.now) rule column slot w }
+// The row of the rule is alive and holds the slot in the column.
+fn supports(rows: &[u8], killers: &[u8], rule: u8, row: u8, column: u8, slot: u8) -> bool
+    requires { Searchable rows.now killers.now rule (row + 1) column }
+    ensures { result ≡ supports? (search_parts rows.now killers.now) rule column slot row }
 {
-    killers[64 * rule + w] == 255 && rows[256 * rule + 4 * w + column] == slot
-}
-
-// The lowest of the rule's first m rows that is alive and holds the slot in the column; m where there is none.
-fn supporting_row(
-    rows: &[u8],
-    killers: &[u8],
-    rule: usize,
-    m: usize,
-    column: usize,
-    slot: u8,
-) -> usize
-    requires { Searchable rows.now killers.now rule m column }
-    ensures { result ≡ first m (supports? (search_parts rows.now killers.now) rule column slot) }
-{
-    let mut w = 0;
-    while w < m {
-        if supports(rows, killers, rule, w, column, slot) {
-            return w;
-        }
-        w += 1;
-    }
-    m
+    let (rule, row, column) = (usize::from(rule), usize::from(row), usize::from(column));
+    killers[64 * rule + row] == 255 && rows[256 * rule + 4 * row + column] == slot
 }
 
 // The lowest living row of the rule that holds the slot in the column, or none.
 pub fn lowest_support(
+    heads: &Heads,
     rows: &[u8],
     killers: &[u8],
-    lengths: &[u8; 64],
     rule: u8,
     column: u8,
     slot: u8,
-) -> Support
-    requires { Searchable rows.now killers.now rule (rows_of lengths.now rule) column }
-    ensures { result ≡ active_support (length_parts lengths.now rows.now killers.now) rule column slot }
+) -> Option<u8>
+    requires { Searchable rows.now killers.now rule (rows_of heads.now.lengths rule) column }
+    ensures { result ≡ active_support (state_of_heads heads.now rows.now killers.now []) rule column slot }
 {
-    let held = rows_of(lengths, rule);
-    let row = supporting_row(rows, killers, rule as usize, held, column as usize, slot);
-    if row < held {
-        Support::Row(row as u8)
-    } else {
-        Support::Nothing
+    for row in 0..rows_of(heads, rule) {
+        if supports(rows, killers, rule, row, column, slot) {
+            return Some(row);
+        }
     }
+    None
 }

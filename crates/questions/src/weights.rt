@@ -1,5 +1,5 @@
 // The weights of slots in a mask: entry s is 2 to the s. They are in sixteens, all of one width and a line for each slot, so that the table can be held against another by
-// eye: 1, 2, 4, 8, and then the same again one place to the left.
+// eye: 1, 2, 4, 8, and then the same again one place to the left. A table and no shift, as docs/SCOPE.md asks for it.
 ghost use Rattle.questions.specs.Mask.{Weights};
 
 const WEIGHTS: [u32; 32] = [

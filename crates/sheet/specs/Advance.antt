@@ -1,19 +1,24 @@
 -- ONE ROUND OVER THE INPUT: what the sheet's definition makes of what is read at a place, and what the code does there.
 use Rattle.std.specs.Prelude.{◌≡◌, List, ℕ, ◌+◌, ◌≤◌}
-use Rattle.model.specs.declared.answer.Answer.{Answer}
 use Rattle.model.specs.declared.command.Command.{Command}
 use Rattle.model.specs.declared.command.Read.{Read}
 use Rattle.model.specs.declared.command.Read.TheVariants as found
 use Rattle.model.specs.declared.command.Decoded.{Decoded}
 use Rattle.model.specs.Ledger.{Ledger, LedgerShape, obey}
 use Rattle.model.specs.Marks.{RepresentsMarked}
+use Rattle.model.specs.Promise.{Answer}
 use Rattle.model.specs.Sheet.{file_refusal, read_line}
 use Rattle.command_obey.specs.Obeys.{Obeys}
 use Rattle.sheet_lines.specs.Append.{Appended}
+use Rattle.sheet.specs.declared.advance.Board.{Board}
 use Rattle.sheet.specs.declared.advance.Progress.{Progress}
 use Rattle.sheet.specs.Line.{answer_line, LineAppended}
-use Rattle.layout.specs.Memory.{MarkedState}
+use Rattle.layout.specs.Memory.{MarkedState, marked_memory}
 use Rattle.sheet_lines.specs.Lengths.{line_most}
+
+-- the state on the board that the commands are obeyed on
+abbrev pub state_on : Board → MarkedState
+state_on b = marked_memory b.value b.names b.rows b.killers b.slots b.marks
 
 -- the ledger after what was read
 unfoldable pub ledger_next : Ledger → Decoded → Ledger
@@ -26,7 +31,7 @@ line_of L d = read_line (file_refusal L d.read d.counts) d.read L.board (ledger_
 -- the place to read at next; behind a refusal 3 or 4 it is the end (SCOPE 7.3)
 abbrev pub place_by : Read → ℕ → ℕ → ℕ
 place_by (found.Command c) following end = following
-place_by (found.Refused k n) following end = end
+place_by (found.Refused k e) following end = end
 place_by found.End following end = end
 
 unfoldable pub next_place : Decoded → ℕ → ℕ

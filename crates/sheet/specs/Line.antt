@@ -1,9 +1,9 @@
 -- THE LINE OF A COMMAND (SCOPE 7.2), read off its answer.
-use Rattle.std.specs.Prelude.{◌≡◌, List, ℕ, ◌+◌, ◌≤◌}
-use Rattle.model.specs.declared.answer.Answer.{Answer}
-use Rattle.model.specs.declared.answer.Answer.TheVariants as answer
+use Rattle.std.specs.Prelude.{List, ℕ, ◌+◌, ◌≤◌, Ok, Err}
 use Rattle.model.specs.declared.command.Command.{Command}
 use Rattle.model.specs.Commands.{kind_of}
+use Rattle.model.specs.Promise.{Answer}
+use Rattle.model.specs.Refusals.{number}
 use Rattle.model.specs.Sheet.{accepted_line, refused_line}
 use Rattle.sheet_lines.specs.Append.{Appended}
 use Rattle.layout.specs.Sizes.{slots_length}
@@ -11,17 +11,17 @@ use Rattle.sheet_lines.specs.Lengths.{line_most}
 
 -- the line that an answer gives
 abbrev pub answer_line : Command → Answer → List ℕ
-answer_line c (answer.Accepted r) = accepted_line (kind_of c) r.struck r.reopened
-answer_line c (answer.Refused n) = refused_line (kind_of c) n
+answer_line c (Ok r) = accepted_line (kind_of c) r.struck r.reopened
+answer_line c (Err e) = refused_line (kind_of c) (number e)
 
 -- S and R of an answer
 abbrev pub report_struck : Answer → ℕ
-report_struck (answer.Accepted r) = r.struck
-report_struck (answer.Refused n) = 0
+report_struck (Ok r) = r.struck
+report_struck (Err e) = 0
 
 abbrev pub report_reopened : Answer → ℕ
-report_reopened (answer.Accepted r) = r.reopened
-report_reopened (answer.Refused n) = 0
+report_reopened (Ok r) = r.reopened
+report_reopened (Err e) = 0
 
 -- an answer whose line is short: there are 1,024 slots, and none is struck and reopened at once
 pub record ShortAnswer (given : Answer) : Type 0 where
@@ -31,8 +31,3 @@ pub record ShortAnswer (given : Answer) : Type 0 where
 pub record LineAppended (bytes : List ℕ) (place : ℕ) (old new : List ℕ) (r : ℕ) : Type 0 where
   pub appended : Appended bytes place old new r
   pub short : r ≤ place + line_most
-
--- a byte as a number
-pub record Wide (b r : ℕ) : Type 0 where
-  pub same : r ≡ b
-  pub most : r ≤ 255

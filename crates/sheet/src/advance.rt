@@ -1,102 +1,87 @@
 // One round over the input: what stands at a place is read and obeyed, and its line is written.
-ghost use Rattle.std.specs.Prelude.{◌≡◌, length};
+ghost use Rattle.std.specs.Prelude.{length};
 ghost use Rattle.model.specs.Commands.{read_at};
 ghost use Rattle.sheet_lines.specs.Append.{Room};
-ghost use Rattle.sheet.specs.Advance.{Held, CommandAdvanced, Advanced};
-ghost use Rattle.layout.specs.Memory.{marked_memory};
+ghost use Rattle.sheet.specs.Advance.{state_on, Held, CommandAdvanced, Advanced};
 ghost use Rattle.sheet_lines.specs.Lengths.{line_most};
 
+use crate::line::{answer_line, refusal_line};
+use layout::marks::MARKS;
 use layout::names::NAMES;
-use layout::value::Value;
+use layout::value::{KILLERS, ROWS, SLOTS, Value};
 use model::command::{Command, Decoded, Read};
+
+// The board that the commands are obeyed on: its value and its bytes, and those of its marks.
+#[derive(Drop)]
+pub struct Board {
+    pub value: Value,
+    pub names: [u8; NAMES],
+    pub rows: [u8; ROWS],
+    pub killers: [u8; KILLERS],
+    pub slots: [u8; SLOTS],
+    pub marks: [u8; MARKS],
+}
 
 // How far the sheet has come.
 #[derive(Clone, Copy)]
 pub struct Progress {
-    // the value beside the board's buffers
-    pub value: Value,
     // so many bytes of the input are read
     pub read: usize,
     // so many bytes of the sheet are written
     pub written: usize,
 }
 
-impl Progress {
-    // The same value, where so many bytes are read and written.
-    fn with_places(self, read: usize, written: usize) -> Progress
-        ensures { result ≡ record { value = self.value; read = read; written = written } }
-    {
-        let value = self.value;
-        Progress {
-            value,
-            read,
-            written,
-        }
-    }
-}
-
 // A command that was read is obeyed, and its line is written.
 fn advance_command(
+    board: &mut Board,
     progress: Progress,
     command: Command,
     decoded: Decoded,
-    names: &mut [u8; NAMES],
     out: &mut [u8],
-    rows: &mut [u8],
-    killers: &mut [u8],
-    slots: &mut [u8],
-    marks: &mut [u8],
 ) -> Progress
-    requires held { Held (marked_memory progress.value names.old rows.old killers.old slots.old marks.old) }
+    requires held { Held (state_on board.old) }
     requires room { Room progress.written line_most out.old }
     ensures { CommandAdvanced
-        command decoded progress
-        (marked_memory progress.value names.old rows.old killers.old slots.old marks.old) out.old result
-        (marked_memory result.value names.new rows.new killers.new slots.new marks.new) out.new }
+        command decoded progress (state_on board.old) out.old result (state_on board.new) out.new }
 {
-    let value = progress.value;
-    let counts = decoded.counts;
-    let outcome = command_obey::obey(value, names, command, counts, rows, killers, slots, marks);
-    let answer = outcome.answer;
-    let value = outcome.value;
-    let written = crate::line::answer_line(out, progress.written, command, answer);
-    let read = decoded.next;
+    let outcome = command_obey::obey(
+        board.value,
+        &mut board.names,
+        command,
+        decoded.counts,
+        &mut board.rows,
+        &mut board.killers,
+        &mut board.slots,
+        &mut board.marks,
+    );
+    let written = answer_line(out, progress.written, command, outcome.answer);
+    board.value = outcome.value;
     Progress {
-        value,
-        read,
+        read: decoded.next,
         written,
     }
 }
 
 // A refusal 3 or 4 counts the rest of the input as read: nothing after it is looked at.
-pub fn advance(
-    progress: Progress,
-    names: &mut [u8; NAMES],
-    input: &[u8],
-    out: &mut [u8],
-    rows: &mut [u8],
-    killers: &mut [u8],
-    slots: &mut [u8],
-    marks: &mut [u8],
-) -> Progress
-    requires held { Held (marked_memory progress.value names.old rows.old killers.old slots.old marks.old) }
+pub fn advance(board: &mut Board, progress: Progress, input: &[u8], out: &mut [u8]) -> Progress
+    requires held { Held (state_on board.old) }
     requires room { Room progress.written line_most out.old }
     ensures { Advanced
-        (read_at input.now progress.read) (length input.now) progress
-        (marked_memory progress.value names.old rows.old killers.old slots.old marks.old) out.old result
-        (marked_memory result.value names.new rows.new killers.new slots.new marks.new) out.new }
+        (read_at input.now progress.read) (length input.now) progress (state_on board.old) out.old result (state_on board.new) out.new }
 {
     let decoded = command_decode::decode(input, progress.read);
-    let found = decoded.read;
-    match found {
-        Read::Command(command) => advance_command(
-            progress, command, decoded, names, out, rows, killers, slots, marks,
-        ),
-        Read::Refused(kind, number) => {
-            let written = crate::line::refusal_line(out, progress.written, kind, number);
-            let read = input.len();
-            progress.with_places(read, written)
+    match decoded.read {
+        Read::Command(command) => advance_command(board, progress, command, decoded, out),
+        Read::Refused(kind, refusal) => {
+            let written = refusal_line(out, progress.written, kind, refusal);
+            Progress {
+                read: input.len(),
+                written,
+            }
         }
-        Read::End => progress.with_places(input.len(), progress.written),
+        Read::End => Progress {
+            read: input.len(),
+            written: progress.written,
+        },
     }
 }

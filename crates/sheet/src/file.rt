@@ -1,23 +1,20 @@
 // The lines of an input that is not too long: those of its commands, one after another, and then those of the board.
-ghost use Rattle.std.specs.Prelude.{◌≡◌, length};
+ghost use Rattle.std.specs.Prelude.{length};
 ghost use Rattle.model.specs.Ledger.{fresh};
 ghost use Rattle.model.specs.Marks.{RepresentsMarked};
 ghost use Rattle.sheet_lines.specs.Append.{Appended, Room};
+ghost use Rattle.sheet.specs.Advance.{state_on};
 ghost use Rattle.sheet.specs.File.{file_lines, counted_lines, Fits, Lined};
-ghost use Rattle.layout.specs.Memory.{marked_memory};
-ghost use Rattle.layout.specs.Sizes.{slots_length};
 ghost use Rattle.sheet_lines.specs.Lengths.{board_lines_most};
 
-use crate::advance::Progress;
+use crate::advance::{Board, Progress, advance};
 use layout::marks::MARKS;
-use layout::names::{MarkedValue, NAMES};
-use layout::value::{KILLERS, ROWS, SLOTS, Value};
+use layout::names::MarkedValue;
+use layout::value::{KILLERS, ROWS, SLOTS};
 
 // The lines of the board, whose calls have these counts: at most 32 lines of 91 bytes, and one of 7 for the whole. Where there is no call there is no line.
-fn board_lines(out: &mut [u8], place: usize, counts: &[u8; 32], slots: &[u8]) -> usize
-    requires room { Room place board_lines_most out.old }
-    requires counts_len { length counts.now ≡ 32 }
-    requires slots_len { length slots.now ≡ slots_length }
+fn board_lines(out: &mut [u8], place: usize, counts: &[u8; 32], slots: &[u8; SLOTS]) -> usize
+    requires { Room place board_lines_most out.old }
     ensures { Appended (counted_lines counts.now slots.now) place out.old out.new result }
 {
     let n = sheet_lines::call_count(counts);
@@ -29,56 +26,39 @@ fn board_lines(out: &mut [u8], place: usize, counts: &[u8; 32], slots: &[u8]) ->
     sheet_lines::total_line(out, listed, total)
 }
 
-// On a value and buffers that are fresh.
-fn fresh_lines(
-    value: Value,
-    names: &mut [u8; NAMES],
-    input: &[u8],
-    out: &mut [u8],
-    rows: &mut [u8],
-    killers: &mut [u8],
-    slots: &mut [u8],
-    marks: &mut [u8],
-) -> usize
+// On a board that is fresh.
+fn fresh_lines(board: &mut Board, input: &[u8], out: &mut [u8]) -> usize
     requires fits { Fits input.now out.old }
-    requires represents_marked { RepresentsMarked fresh (marked_memory value names.old rows.old killers.old slots.old marks.old) }
+    requires represents_marked { RepresentsMarked fresh (state_on board.old) }
     ensures { Lined (file_lines input.now) out.old out.new result }
 {
     let mut progress = Progress {
-        value,
         read: 0,
         written: 0,
     };
     while progress.read < input.len() {
-        progress = crate::advance::advance(
-            progress, names, input, out, rows, killers, slots, marks,
-        );
+        progress = advance(board, progress, input, out);
     }
-    let end = progress.value;
-    let heads = end.heads;
-    let counts = heads.counts;
-    board_lines(out, progress.written, &counts, slots)
+    board_lines(
+        out,
+        progress.written,
+        &board.value.heads.counts,
+        &board.slots,
+    )
 }
 
 pub fn file_lines(input: &[u8], out: &mut [u8]) -> usize
     requires { Fits input.now out.old }
     ensures { Lined (file_lines input.now) out.old out.new result }
 {
-    let mut rows = [255u8; ROWS];
-    let mut killers = [255u8; KILLERS];
-    let mut slots = [254u8; SLOTS];
-    let mut marks = [0u8; MARKS];
-    let held = MarkedValue::fresh();
-    let value = held.value;
-    let mut names = held.names;
-    fresh_lines(
+    let MarkedValue { value, names } = MarkedValue::fresh();
+    let mut board = Board {
         value,
-        &mut names,
-        input,
-        out,
-        &mut rows,
-        &mut killers,
-        &mut slots,
-        &mut marks,
-    )
+        names,
+        rows: [255; ROWS],
+        killers: [255; KILLERS],
+        slots: [254; SLOTS],
+        marks: [0; MARKS],
+    };
+    fresh_lines(&mut board, input, out)
 }

@@ -8,10 +8,8 @@ ghost use Rattle.sheet.specs.Promise.{SheetPromise};
 ghost use Rattle.sheet.specs.File.{input_lines, Lined};
 ghost use Rattle.sheet.specs.Bounds.{sheet_most};
 
-use crate::answer::Sheet;
-use model::refusal::{BUFFER_LENGTH, FILE_LENGTH};
+use model::refusal::Refusal;
 
-pub mod answer; // what the sheet answers
 mod line; // the line of a command
 mod advance; // one command of the input
 mod file; // all of them, and the lines of the board
@@ -28,19 +26,16 @@ fn input_lines(input: &[u8], out: &mut [u8]) -> usize
     ensures { Lined (input_lines input.now) out.old out.new result }
 {
     if INPUT < input.len() {
-        return crate::line::refusal_line(out, 0, 0, FILE_LENGTH);
+        return line::refusal_line(out, 0, 0, Refusal::FileLength);
     }
-    crate::file::file_lines(input, out)
+    file::file_lines(input, out)
 }
 
-// Writes the sheet of the input to the start of the buffer. A buffer that is too short for the longest sheet is refused.
-pub fn sheet(input: &[u8], out: &mut [u8]) -> Sheet
+// Writes the sheet of the input to the start of the buffer: the length of what was written. A buffer that is too short for the longest sheet is refused.
+pub fn sheet(input: &[u8], out: &mut [u8]) -> Result<usize, Refusal>
     ensures { SheetPromise input.now out.old result out.new }
 {
-    if out.len() < ROOM {
-        return Sheet::Refused(BUFFER_LENGTH);
-    }
+    Refusal::BufferLength.when(out.len() < ROOM)?;
     let place = input_lines(input, out);
-    let n = sheet_lines::end_line(out, place);
-    Sheet::Written(n)
+    Ok(sheet_lines::end_line(out, place))
 }

@@ -1,5 +1,5 @@
 // The lines of the sheet, written one after another into a lent buffer. Each function is given the place to write at, asks for room for just what it
-// writes, and returns the place after it.
+// writes, and returns the place after it. A struct of the buffer and the place would need one more clause in each contract: that it still holds the same buffer.
 // Proved: what is written is the definition's bytes, and every other byte is as it was. Assumed: nothing.
 #![tactic(auto)]
 
@@ -11,10 +11,10 @@ ghost use Rattle.sheet_lines.specs.Joined.{joined};
 ghost use Rattle.sheet_lines.specs.Digits.{digit_if};
 ghost use Rattle.sheet_lines.specs.Lines.{start};
 ghost use Rattle.sheet_lines.specs.Calls.{open_numbers, open_number, call_slots, slot_line};
-ghost use Rattle.layout.specs.Sizes.{slots_length};
 ghost use Rattle.sheet_lines.specs.Lengths.{decimal_end};
 
 use layout::places::CANCELLED;
+use layout::value::SLOTS;
 
 // One byte.
 pub fn write_byte(out: &mut [u8], at: usize, b: u8) -> usize
@@ -30,13 +30,9 @@ pub fn write_bytes(out: &mut [u8], at: usize, text: &[u8]) -> usize
     requires { Room at (length text.now) out.old }
     ensures { Appended text.now at out.old out.new result }
 {
-    let mut next = at;
-    let mut i = 0;
-    while i < text.len() {
-        next = write_byte(out, next, text[i]);
-        i += 1;
-    }
-    next
+    let end = at + text.len();
+    out[at..end].copy_from_slice(text);
+    end
 }
 
 // The digit of n whose weight is w, where n has it: a number begins with no 0.
@@ -117,9 +113,8 @@ pub fn refused_line(out: &mut [u8], at: usize, kind: usize, number: usize) -> us
 }
 
 // The number of slot s of call c with a space before it, where the slot is open.
-fn open_slot(out: &mut [u8], at: usize, slots: &[u8], c: usize, s: usize) -> usize
+fn open_slot(out: &mut [u8], at: usize, slots: &[u8; SLOTS], c: usize, s: usize) -> usize
     requires room { Room at (length (open_number slots.now c s)) out.old }
-    requires slots_len { length slots.now ≡ slots_length }
     requires c_bound { c < 32 }
     requires s_bound { s < 32 }
     ensures { Appended (open_number slots.now c s) at out.old out.new result }
@@ -132,25 +127,21 @@ fn open_slot(out: &mut [u8], at: usize, slots: &[u8], c: usize, s: usize) -> usi
 }
 
 // The numbers of all open slots of call c, rising.
-pub fn open_slots(out: &mut [u8], at: usize, slots: &[u8], c: usize) -> usize
+pub fn open_slots(out: &mut [u8], at: usize, slots: &[u8; SLOTS], c: usize) -> usize
     requires room { Room at (length (spaced (open_numbers slots.now c))) out.old }
-    requires slots_len { length slots.now ≡ slots_length }
     requires c_bound { c < 32 }
     ensures { Appended (spaced (open_numbers slots.now c)) at out.old out.new result }
 {
     let mut next = at;
-    let mut s = 0;
-    while s < 32 {
+    for s in 0..32 {
         next = open_slot(out, next, slots, c, s);
-        s += 1;
     }
     next
 }
 
 // What follows the number of call c: a dash where it is cancelled, else the numbers of its open slots.
-fn call_slots(out: &mut [u8], at: usize, slots: &[u8], c: usize) -> usize
+fn call_slots(out: &mut [u8], at: usize, slots: &[u8; SLOTS], c: usize) -> usize
     requires room { Room at (length (call_slots slots.now c)) out.old }
-    requires slots_len { length slots.now ≡ slots_length }
     requires c_bound { c < 32 }
     ensures { Appended (call_slots slots.now c) at out.old out.new result }
 {
@@ -162,9 +153,8 @@ fn call_slots(out: &mut [u8], at: usize, slots: &[u8], c: usize) -> usize
 }
 
 // The line of call c: its number and those of its open slots, with no space after the last, or a dash where it is cancelled.
-pub fn call_line(out: &mut [u8], at: usize, slots: &[u8], c: usize) -> usize
+pub fn call_line(out: &mut [u8], at: usize, slots: &[u8; SLOTS], c: usize) -> usize
     requires room { Room at (length (slot_line slots.now c)) out.old }
-    requires slots_len { length slots.now ≡ slots_length }
     requires c_bound { c < 32 }
     ensures { Appended (slot_line slots.now c) at out.old out.new result }
 {
@@ -174,34 +164,23 @@ pub fn call_line(out: &mut [u8], at: usize, slots: &[u8], c: usize) -> usize
 }
 
 // The lines of the first n calls.
-pub fn call_lines(out: &mut [u8], at: usize, slots: &[u8], n: usize) -> usize
+pub fn call_lines(out: &mut [u8], at: usize, slots: &[u8; SLOTS], n: usize) -> usize
     requires room { Room at (length (joined (slot_line slots.now) n)) out.old }
-    requires slots_len { length slots.now ≡ slots_length }
     requires n_bound { n ≤ 32 }
     ensures { Appended (joined (slot_line slots.now) n) at out.old out.new result }
 {
     let mut next = at;
-    let mut c = 0;
-    while c < n {
+    for c in 0..n {
         next = call_line(out, next, slots, c);
-        c += 1;
     }
     next
 }
 
 // The number of calls: their slot counts stand before the first 0.
 pub fn call_count(counts: &[u8; 32]) -> usize
-    requires { length counts.now ≡ 32 }
     ensures { result ≡ length (up_to_zero counts.now) }
 {
-    let mut n = 0;
-    while n < 32 {
-        if counts[n] == 0 {
-            return n;
-        }
-        n += 1;
-    }
-    32
+    counts.iter().position(|n| *n == 0).unwrap_or(counts.len())
 }
 
 // The line of the whole board: its open slots.

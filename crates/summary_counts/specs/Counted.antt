@@ -24,12 +24,12 @@ abbrev pub column_on? : List ℕ → ℕ → ℕ → ℕ → ℕ → Bool
 column_on? scope p n c k = ltb k n && eqb (call_of scope p k) c
 
 -- how many of the first n columns of the heads, four to a rule, are on call c: a rule's calls differ, so that it has one of them at most
-abbrev pub columns_on : List ℕ → List ℕ → ℕ → ℕ → ℕ
-columns_on arity scope n c = count_below n (λ i. column_on? scope (i / 4) (get_or arity (i / 4) 0) c (i % 4))
+abbrev pub columns_on : Heads → ℕ → ℕ → ℕ
+columns_on h n c = count_below n (λ i. column_on? h.scope (i / 4) (get_or h.arity (i / 4) 0) c (i % 4))
 
 -- zeros where the call has no slots. On altered heads all 256 columns may be on one call, which a byte does not hold
 abbrev pub counted_record : Heads → List ℕ → ℕ → Summary
-counted_record h slots c = cond (eqb (get_or h.counts c 0) 0) no_summary (figures_of slots c (get_or h.counts c 0) (columns_on h.arity h.scope 256 c % 256))
+counted_record h slots c = cond (eqb (get_or h.counts c 0) 0) no_summary (figures_of slots c (get_or h.counts c 0) (columns_on h 256 c % 256))
 
 pub record Counted (h : Heads) (slots : List ℕ) (table : List Summary) : Type 0 where
   pub size : length table ≡ records_length

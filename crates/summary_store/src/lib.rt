@@ -12,9 +12,5 @@ pub fn store_records(table: &mut [Summary], all: Table, n: usize)
     requires { (n ≤ 32) × (n ≤ length table.old) }
     ensures { table.new ≡ replaced n all.records table.old }
 {
-    let mut i = 0;
-    while i < n {
-        table[i] = all.records[i];
-        i += 1;
-    }
+    table[..n].copy_from_slice(&all.records[..n]);
 }

@@ -1,6 +1,7 @@
 -- The theorems over the definitions.
 pub mod Facts
 pub mod Sweep
+pub mod Part
 pub mod Fill
 pub mod Assign
 pub mod Count

@@ -17,7 +17,7 @@ place_replied s p w bytes promise = go (first_of (row_checks s p w)) refl promis
   where
     go : (n : ℕ) → n ≡ first_of (row_checks s p w) → bytes ≡ bytes_by n s.rows p w → PlaceReplied s p w (row_place_reply (length bytes) p w)
     go zero e same =
-        let there = row_bounds s p w e refl in
+        let there = row_bounds s p w e in
         let last : 256 * p + 4 * w + 4 ≤ length s.rows = omega (arith, there.rows_size, there.number, there.few) in
         let four : length bytes ≡ 4 = ap length same ∙ simp (length-take, length-drop) (omega arith) in
         rw four

@@ -2,5 +2,8 @@
 use Rattle.std.proofs.Common.{refl}
 use Rattle.board.proofs.command.Goals as goal
 
+pub store-requires : goal.store-requires
+store-requires c = c.command_core-done.ensures.room
+
 pub returns : goal.returns
-returns c = rw c.store_records.ensures (c.command_core-done.ensures.all c.args.table.now refl)
+returns c = rw c.store.ensures (c.command_core-done.ensures.all c.args.table.now refl)

@@ -1,6 +1,6 @@
 -- DEMAND 3 OF THE COMMAND ENTRY (SCOPE 6.12 to 6.15), over every list of raw commands with any lengths lent, and over every two lists; and the summary table after every
 -- list (2.9, 7.11), the check of plans (5.7, 5.8) and the search for one (5.9, 5.10). Nothing is assumed but that each command of a list meets the entry's contract, which `command` of this crate is proved to do.
-use Rattle.std.specs.Prelude.{◌≡◌, List, ◌↔◌, ◌⊎◌, ℕ, ◌≤◌, ◌<◌, length, get_or}
+use Rattle.std.specs.Prelude.{◌≡◌, List, ◌↔◌, ◌⊎◌, ℕ, ◌≤◌, ◌<◌, length, get_or, Some, None, Result, Ok}
 use Rattle.std.proofs.Common.{◌∙◌, inl, inr, ⊎_elim, arith}
 use Rattle.model.specs.Board.{Rule, Board, call_at, Cancelled, Live, InForce, SelfSupporting, Viable, Alive, Dead, FullPlan, AtLeast}
 use Rattle.model.specs.Records.{Open, Struck, Caused, KillerIn, Ring, NoRing, EscapeFromAll, Recorded}
@@ -18,14 +18,13 @@ use Rattle.layout.specs.Summary.{no_summary}
 use Rattle.layout.specs.Sizes.{records_length}
 use Rattle.layout.specs.Memory.{Whole, lent_of}
 use Rattle.model.specs.Refusals.{first_of}
-use Rattle.plan_model.specs.declared.answer.PlanCheck.{PlanCheck}
-use Rattle.plan_model.specs.declared.answer.PlanCheck.TheVariants as plan
+use Rattle.model.specs.declared.refusal.Refusal.{Refusal}
 use Rattle.plan_model.specs.Plans.{slot_in}
-use Rattle.plan_model.specs.Check.{plan_conditions, LowestBroken, PlanPromise}
+use Rattle.plan_model.specs.Check.{plan_conditions, PlanCheck, LowestBroken, PlanPromise}
 use Rattle.plan_model.proofs.Laws.Kept.{kept_exactly, struck_broken}
 use Rattle.model.specs.Questions.{board_conditions}
 use Rattle.plan_search.specs.declared.answer.FirstPlan.TheVariants as searched
-use Rattle.plan_search.specs.declared.answer.PlanAnswer.{PlanAnswer}
+use Rattle.plan_search.specs.declared.answer.FirstPlan.{FirstPlan}
 use Rattle.plan_search.specs.First.{board_task, search_all, trials, FoundFirst, FirstPromise}
 use Rattle.plan_search.proofs.Laws.Exactly.{found_exactly, none_exactly, stopped_exactly, found_is_first}
 use Rattle.plan_search.proofs.Laws.Checked.{found_kept}
@@ -128,37 +127,37 @@ module _ {first : List ℕ} (ms : List Member) (s : Whole) (after : After first 
   -- PLANS FROM ELSEWHERE, after every list (SCOPE 5.7): of bytes that pass the checks, whatever answer keeps its promise is "kept" exactly where they are a full plan,
   module _ (bytes : List ℕ) (passes : first_of (plan_conditions (run fresh ms) (lent_of s.marked.state) bytes) ≡ 0) (given : PlanCheck)
       (promise : PlanPromise s.marked.state bytes given) where
-    pub plan_kept_exactly : (given ≡ plan.Kept) ↔ FullPlan B (slot_in bytes)
+    pub plan_kept_exactly : (given ≡ Ok None) ↔ FullPlan B (slot_in bytes)
     plan_kept_exactly = let r = runs_represent ms s after in kept_exactly (run fresh ms) r.0 s.marked.state r.1.state bytes passes given promise
 
     -- and where they use a struck slot a rule is named that they break (5.8)
-    pub plan_struck_broken : (c : ℕ) → c < length B.counts → Struck B cause c (slot_in bytes c) → (p : ℕ) × (given ≡ plan.Broken p) × LowestBroken B (slot_in bytes) p
+    pub plan_struck_broken : (c : ℕ) → c < length B.counts → Struck B cause c (slot_in bytes c) → (p : ℕ) × (given ≡ Ok (Some p)) × LowestBroken B (slot_in bytes) p
     plan_struck_broken = let r = runs_represent ms s after in struck_broken (run fresh ms) r.0 s.marked.state r.1.state bytes passes given promise
 
   -- THE FIRST FULL PLAN, after every list (SCOPE 5.9, 5.10): where nothing is refused, whatever answer keeps its promise is "found" exactly where there is a full plan and
   -- the search comes to it within the ceiling,
-  module _ (passes : first_of (board_conditions (run fresh ms) (lent_of s.marked.state)) ≡ 0) (ceiling : ℕ) (given : PlanAnswer)
+  module _ (passes : first_of (board_conditions (run fresh ms) (lent_of s.marked.state)) ≡ 0) (ceiling : ℕ) (given : Result FirstPlan Refusal)
       (promise : FirstPromise s.marked.state ceiling given) where
     abbrev needed : ℕ
     needed = trials (search_all (board_task B))
 
-    pub plan_found_exactly : ((n : ℕ) × (given.answer ≡ searched.Found n)) ↔ (((P : ℕ → ℕ) × FullPlan B P) × (needed ≤ ceiling))
+    pub plan_found_exactly : ((n : ℕ) × ((plan : List ℕ) × (given ≡ Ok (searched.Found n plan)))) ↔ (((P : ℕ → ℕ) × FullPlan B P) × (needed ≤ ceiling))
     plan_found_exactly = let r = runs_represent ms s after in found_exactly (run fresh ms) r.0 s.marked.state r.1.state passes ceiling given promise
 
     -- "none" exactly where there is no full plan and the search finishes within the ceiling,
-    pub plan_none_exactly : ((n : ℕ) × (given.answer ≡ searched.Nothing n)) ↔ (((P : ℕ → ℕ) → FullPlan B P → ⊥) × (needed ≤ ceiling))
+    pub plan_none_exactly : ((n : ℕ) × (given ≡ Ok (searched.Nothing n))) ↔ (((P : ℕ → ℕ) → FullPlan B P → ⊥) × (needed ≤ ceiling))
     plan_none_exactly = let r = runs_represent ms s after in none_exactly (run fresh ms) r.0 s.marked.state r.1.state passes ceiling given promise
 
     -- "stopped" exactly where the search needs more trials than the ceiling;
-    pub search_stopped_exactly : ((n : ℕ) × (given.answer ≡ searched.Stopped n)) ↔ (ceiling < needed)
+    pub search_stopped_exactly : ((n : ℕ) × (given ≡ Ok (searched.Stopped n))) ↔ (ceiling < needed)
     search_stopped_exactly = let r = runs_represent ms s after in stopped_exactly (run fresh ms) r.0 s.marked.state r.1.state passes ceiling given promise
 
     -- what is found is the first full plan, with the trials that it needs,
-    pub plan_found_first : (n : ℕ) → given.answer ≡ searched.Found n → FoundFirst B ceiling given.plan n
+    pub plan_found_first : (n : ℕ) (plan : List ℕ) → given ≡ Ok (searched.Found n plan) → FoundFirst B ceiling plan n
     plan_found_first = let r = runs_represent ms s after in found_is_first (run fresh ms) r.0 s.marked.state r.1.state passes ceiling given promise
 
     -- and whatever check keeps its promise says that it is kept
-    pub plan_found_kept : (n : ℕ) → given.answer ≡ searched.Found n → (check : PlanCheck) → PlanPromise s.marked.state given.plan check → check ≡ plan.Kept
+    pub plan_found_kept : (n : ℕ) (plan : List ℕ) → given ≡ Ok (searched.Found n plan) → (check : PlanCheck) → PlanPromise s.marked.state plan check → check ≡ Ok None
     plan_found_kept = let r = runs_represent ms s after in found_kept (run fresh ms) r.0 s.marked.state r.1.state ceiling given promise
 
 -- OF TWO LISTS (SCOPE 6.14, 6.21): with the same calls and counts, at least the same rules after the second, and every call that is cancelled after it cancelled after the

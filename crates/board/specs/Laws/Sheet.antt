@@ -19,8 +19,9 @@ use Rattle.model.specs.Commands.{is_kind, body_size, head_at, row_at, gap_at, co
 use Rattle.model.specs.Ledger.{Ledger, fresh, lent_conditions, form_conditions, own_conditions, kind_conditions, obey, step, run, lengths, member}
 use Rattle.model.specs.Report.{slot_count, open?}
 use Rattle.model.specs.Summary.{open_total, open_sum}
-use Rattle.model.specs.Refusals.{first_of}
-use Rattle.model.specs.Numbers as refused
+use Rattle.model.specs.declared.refusal.Refusal.{Refusal}
+use Rattle.model.specs.declared.refusal.Refusal.TheVariants as refusal_kind
+use Rattle.model.specs.Refusals.{number, first_of}
 use Rattle.model.specs.Sheet.{end_line, total_line, call_lines, board_lines, file_refusal, read_line, input_most, up_to_refusal, reads_from, lines_from, sheet_of}
 use Rattle.layout.specs.Memory.{Whole}
 use Rattle.model.specs.Lists.{After}
@@ -58,7 +59,7 @@ read_there s at k is known fits =
   where
     go : (a b c : Bool) → a ≡ false → b ≡ true → c ≡ true
         → cond a (without found.End at)
-        (cond b (cond c (read_of s k (at + 1)) (without (found.Refused k refused.body_length) at)) (without (found.Refused k refused.unknown_kind) at))
+        (cond b (cond c (read_of s k (at + 1)) (without (found.Refused k refusal_kind.BodyLength) at)) (without (found.Refused k refusal_kind.UnknownKind) at))
         ≡ read_of s k (at + 1)
     go a b c x y z = rw (x, y, z) refl
 
@@ -73,8 +74,8 @@ read_whole s at c = go (leb (length s) at) (is_kind (get_or s at 0)) (leb (at + 
   where
     go : (a b k : Bool) → is_kind (get_or s at 0) ≡ b → leb (at + 1 + body_size (get_or s at 0)) (length s) ≡ k
         → (cond a (without found.End at)
-        (cond b (cond k (read_of s (get_or s at 0) (at + 1)) (without (found.Refused (get_or s at 0) refused.body_length) at))
-        (without (found.Refused (get_or s at 0) refused.unknown_kind) at))).read ≡ found.Command c
+        (cond b (cond k (read_of s (get_or s at 0) (at + 1)) (without (found.Refused (get_or s at 0) refusal_kind.BodyLength) at))
+        (without (found.Refused (get_or s at 0) refusal_kind.UnknownKind) at))).read ≡ found.Command c
         → ReadWhole s at (get_or s at 0)
     go true b k known f e = let z : ◌≡◌ {A = ℕ} 0 1 = cc in absurd (omega arith)
     go false true true known f e =
@@ -197,10 +198,10 @@ alone_step L bytes c counts a =
     go r ns left x y z = rw (x, y, z) refl
 
 -- a 3 or 4 of a file does nothing
-refused_nothing : (L : Ledger) (k n : ℕ) (ns : List ℕ) → obey n L (found.Refused k n) ns ≡ L
-refused_nothing L k n ns = go n
+refused_nothing : (L : Ledger) (k : ℕ) (f : Refusal) (ns : List ℕ) → obey (number f) L (found.Refused k f) ns ≡ L
+refused_nothing L k f ns = go (number f)
   where
-    go : (m : ℕ) → obey m L (found.Refused k n) ns ≡ L
+    go : (m : ℕ) → obey m L (found.Refused k f) ns ≡ L
     go zero = refl
     go (suc m) = refl
 

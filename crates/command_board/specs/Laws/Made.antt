@@ -1,7 +1,6 @@
 -- THE BOARD THAT KIND 1 MAKES: its value and bytes are those of a board without rules. Assumes nothing.
-use Rattle.std.specs.Prelude.{◌≡◌, refl, true, false, cond, List, ℕ, ◌+◌, ◌*◌, ◌/◌, ◌%◌, ◌<◌, ◌≤◌, length, get_or, ltb}
+use Rattle.std.specs.Prelude.{◌≡◌, refl, true, false, cond, List, ℕ, ◌+◌, ◌*◌, ◌/◌, ◌%◌, ◌<◌, ◌≤◌, length, get_or, ltb, Ok, Err}
 use Rattle.std.proofs.Common.{◌∙◌, arith, lt-ltb, le-ltb}
-use Rattle.model.specs.declared.answer.Answer.TheVariants as answer
 use Rattle.model.specs.declared.command.Command.TheVariants as kind
 use Rattle.model.specs.Board.{OnBoard, Shape}
 use Rattle.model.specs.Ledger.{bare, fresh, bad_counts?, up_to_zero, effect}
@@ -14,7 +13,7 @@ use Rattle.command_board.specs.Laws.Counts.{counts_kept}
 use Rattle.layout.specs.Places.{cause_of}
 use Rattle.layout.specs.Memory.{State, state_of}
 use Rattle.layout.specs.Laws.Memory.{filled}
-use Rattle.model.specs.Numbers as refused
+use Rattle.model.specs.declared.refusal.Refusal.TheVariants as refused
 
 slot_byte_at : (ns : List ℕ) (c s : ℕ) → s < 32 → slot_byte ns (32 * c + s) ≡ cond (ltb s (get_or ns c 0)) 255 254
 unfolding slot_byte
@@ -50,14 +49,14 @@ module _ (ns : List ℕ) (size : length ns ≡ 32) (good : bad_counts? ns ≡ fa
           drafted = fresh_represents.drafted;
         }
 
-    pub makes_new : (before : State) → MakesBoard ns before (answer.Accepted (record { struck = 0; reopened = 0; touched = 0 })) (state_of (bare_value ns) rows killers slots)
+    pub makes_new : (before : State) → MakesBoard ns before (Ok (record { struck = 0; reopened = 0; touched = 0 })) (state_of (bare_value ns) rows killers slots)
     makes_new before =
         record {
           refused = λ n e. let z : ◌≡◌ {A = ℕ} 0 1 = cc in absurd (omega arith);
           made = record { number = rw good refl; values = rw good refl; represents = λ e. made_represents };
         }
 
-pub makes_nothing : (ns : List ℕ) (before : State) → bad_counts? ns ≡ true → MakesBoard ns before (answer.Refused refused.bad_counts) before
+pub makes_nothing : (ns : List ℕ) (before : State) → bad_counts? ns ≡ true → MakesBoard ns before (Err refused.BadCounts) before
 makes_nothing ns before bad =
     record {
       refused = λ n e. refl;

@@ -1,18 +1,17 @@
 -- WHAT A CANCELLATION LEAVES is the stepped ledger's, and its report is right. Assumes nothing.
-use Rattle.std.specs.Prelude.{◌≡◌, refl, List, ℕ, ◌%◌, ◌<◌, min, length, get_or}
+use Rattle.std.specs.Prelude.{◌≡◌, refl, List, ℕ, ◌%◌, ◌<◌, min, length, get_or, Err}
 use Rattle.std.proofs.Common.{sym, ◌∙◌, arith, leb-false}
-use Rattle.model.specs.declared.answer.Answer.{Answer}
-use Rattle.model.specs.declared.answer.Answer.TheVariants as answer
+use Rattle.model.specs.declared.refusal.Refusal.{Refusal}
 use Rattle.model.specs.declared.command.Command.TheVariants as kind
 use Rattle.model.specs.Board.{Board}
 use Rattle.model.specs.Ledger.{Ledger, LedgerShape, kind_conditions}
 use Rattle.model.specs.Report.{Reports}
 use Rattle.model.specs.Representation.{Represents}
-use Rattle.model.specs.Promise.{KindPromise}
+use Rattle.model.specs.Promise.{Answer, KindPromise}
 use Rattle.model.proofs.Laws.Refusals.{none_holds}
 use Rattle.model.proofs.Laws.Promised.{promise_refused, promise_accepted}
 use Rattle.model.specs.Numbers as refused
-use Rattle.model.specs.Refusals.{first_of}
+use Rattle.model.specs.Refusals.{number, first_of}
 use Rattle.filter_cancel.specs.Stored.{CancelStored}
 use Rattle.filter_cancel.specs.Laws.Stored.{cancel_stored}
 use Rattle.layout.specs.Memory.{State}
@@ -22,9 +21,8 @@ use Rattle.command_cancel.proofs.Laws.Checks.{cancel_checks_same}
 
 module _ (call : ℕ) (before : State) (ns : List ℕ) where
   -- a refusal changes nothing
-  pub cancel_refused : (m : ℕ) → (m ≡ 0 → ⊥) → m ≡ first_of (cancel_checks before.value.heads.counts before.slots call)
-      → KindPromise before (kind.Cancel call) ns (answer.Refused m) before
-  cancel_refused m ne e = promise_refused before (kind.Cancel call) ns m ne (λ L shape is. e ∙ cancel_checks_same L shape before is call ns)
+  pub cancel_refused : (f : Refusal) → number f ≡ first_of (cancel_checks before.value.heads.counts before.slots call) → KindPromise before (kind.Cancel call) ns (Err f) before
+  cancel_refused f e = promise_refused before (kind.Cancel call) ns f (λ L shape is. e ∙ cancel_checks_same L shape before is call ns)
 
   module _ (given : Answer) (after : State) (done : CallCancelled call before given after) where
     -- a call of the board is below 32, and its count is the head's

@@ -1,5 +1,5 @@
 -- THE DRAFTS that kinds 2 and 3 leave are those of the stepped ledger. Assumes nothing.
-use Rattle.std.specs.Prelude.{◌≡◌, refl, false, not, ◌&&◌, List, [], ◌∷◌, ◌++◌, ◌⊎◌, ℕ, zero, suc, ◌+◌, ◌*◌, ◌<◌, ◌≤◌, length, get_or, take, set, eqb, leb}
+use Rattle.std.specs.Prelude.{◌≡◌, refl, false, not, ◌&&◌, List, [], ◌∷◌, ◌++◌, ◌⊎◌, ℕ, zero, suc, ◌+◌, ◌*◌, ◌<◌, ◌≤◌, length, get_or, take, set, eqb, leb, Result}
 use Rattle.std.proofs.Common.{sym, ap, ◌∙◌, inl, inr, ⊎_elim, eq-or-lt_of_le, arith, length-take, length-set, length-append, get_or-take, get_or-set_same, get_or-set_other, length-take-le, eqb-true, le-leb, leb-false}
 use Rattle.std.proofs.Math.ListN.{get_or-append, get_or-eq_default}
 use Rattle.std.proofs.Math.Seq.{get_or-append_seam}
@@ -14,17 +14,18 @@ use Rattle.model.specs.Commands.{scope_of, slots_of}
 use Rattle.model.specs.Ledger.{Ledger, LedgerShape, draft_or, bad_spare?, kind_conditions}
 use Rattle.model.specs.Representation.{RuleHeld, Represents}
 use Rattle.model.proofs.Laws.Tests.{none_passes}
-use Rattle.model.proofs.Laws.Refusals.{none_holds, agree_first}
+use Rattle.model.proofs.Laws.Refusals.{none_holds, agree_first, answered_number}
 use Rattle.model.specs.Numbers as refused
-use Rattle.command_draft.specs.declared.redraft.Redrafted.{Redrafted}
+use Rattle.layout.specs.declared.value.Draft.{Draft}
+use Rattle.model.specs.declared.refusal.Refusal.{Refusal}
 use Rattle.command_draft.specs.Fields.{head_checks, add_row_checks}
-use Rattle.command_draft.specs.Drafts.{Redraws, draft_of, with_slots, longer_rule, with_row}
+use Rattle.command_draft.specs.Drafts.{draft_of, with_slots, longer_rule, with_row}
 use Rattle.command_draft.proofs.Laws.Redraft.{new_left, RedraftRight}
 use Rattle.command_draft.proofs.Laws.Fields.{arity_most, draft_limits, head_checks_agree, row_checks_agree}
 use Rattle.layout.specs.Memory.{state_of}
 use Rattle.layout.specs.Laws.Memory.{filled}
 use Rattle.tables.specs.Laws.Facts.{any_default, lt_or_le}
-use Rattle.model.specs.Refusals.{first_of}
+use Rattle.model.specs.Refusals.{first_of, AnsweredBy}
 
 -- four fields of which those past the first a are 255: the list of the first a reads the same
 pub spare_same : (a : ℕ) (xs : List ℕ) → length xs ≡ 4 → bad_spare? a xs ≡ false → (k : ℕ) → k < 4 → get_or xs k 0 ≡ get_or (take a xs) k 255
@@ -57,14 +58,15 @@ module _ (value : Value) (slots : List ℕ) (h : Head) where
       → first_of (head_checks value.heads.counts slots h) ≡ first_of (kind_conditions L (kind.Head h) ns)
   head_first L shape rows killers is ns = agree_first (head_checks_agree L shape is.stored h ns)
 
-  pub head_right : {r : Redrafted} → Redraws (head_checks value.heads.counts slots h) value.draft (draft_of h) r → RedraftRight value slots (kind.Head h) r
-  head_right {r} given =
+  pub head_right : (r : Result Draft Refusal) → AnsweredBy (first_of (head_checks value.heads.counts slots h)) (draft_of h) r → RedraftRight value slots (kind.Head h) r
+  head_right r given =
       record {
-        number = λ L shape rows killers is ns. given.number ∙ head_first L shape rows killers is ns;
-        drafted = λ z L shape rows killers is ns.
-            let good = none_holds (kind_conditions L (kind.Head h) ns) tt (sym (head_first L shape rows killers is ns) ∙ sym given.number ∙ z) in
+        number = λ L shape rows killers is ns. answered_number (first_of (head_checks value.heads.counts slots h)) (draft_of h) r given ∙ head_first L shape rows killers is ns;
+        drafted = λ d e L shape rows killers is ns.
+            let left = new_left r given d e in
+            let good = none_holds (kind_conditions L (kind.Head h) ns) tt (sym (head_first L shape rows killers is ns) ∙ left.0) in
             let held = head_held h (arity_most h.arity (good refused.bad_arity)) (good refused.spare_field) in
-            rw (new_left given z) (record { number = refl; rule = held });
+            rw left.1 (record { number = refl; rule = held });
         board = λ L ns. refl;
         report = λ B before after. record { struck = refl; reopened = refl; own = refl };
       }
@@ -163,16 +165,18 @@ module _ (value : Value) (slots : List ℕ) (w : Row) where
       → first_of (add_row_checks value.heads.counts value.draft.rule w) ≡ first_of (kind_conditions L (kind.Row w) ns)
   row_first L shape rows killers is ns = agree_first (row_checks_agree L shape value.heads is.stored.headed value.draft.rule is.drafted.rule w ns)
 
-  pub row_right : {r : Redrafted} → Redraws (add_row_checks value.heads.counts value.draft.rule w) value.draft (with_row value.draft w) r
+  pub row_right : (r : Result Draft Refusal) → AnsweredBy (first_of (add_row_checks value.heads.counts value.draft.rule w)) (with_row value.draft w) r
       → RedraftRight value slots (kind.Row w) r
-  row_right {r} given =
+  row_right r given =
       record {
-        number = λ L shape rows killers is ns. given.number ∙ row_first L shape rows killers is ns;
-        drafted = λ z L shape rows killers is ns.
-            let good = none_holds (kind_conditions L (kind.Row w) ns) tt (sym (row_first L shape rows killers is ns) ∙ sym given.number ∙ z) in
+        number = λ L shape rows killers is ns.
+            answered_number (first_of (add_row_checks value.heads.counts value.draft.rule w)) (with_row value.draft w) r given ∙ row_first L shape rows killers is ns;
+        drafted = λ d e L shape rows killers is ns.
+            let left = new_left r given d e in
+            let good = none_holds (kind_conditions L (kind.Row w) ns) tt (sym (row_first L shape rows killers is ns) ∙ left.0) in
             let room = leb-false 64 (length (draft_or L.draft).rule.rows) (good refused.draft_full) in
             let held = longer_held (draft_or L.draft).rule value.draft.rule w is.drafted.rule (draft_limits L shape).columns room (good refused.spare_field) in
-            rw (new_left given z) (record { number = is.drafted.number; rule = held });
+            rw left.1 (record { number = is.drafted.number; rule = held });
         board = λ L ns. refl;
         report = λ B before after. record { struck = refl; reopened = refl; own = refl };
       }

@@ -4,7 +4,7 @@ use Rattle.command_file.proofs.run_file.Goals as goal
 
 pub take_all-replayed-requires : goal.take_all-replayed-requires
 take_all-replayed-requires c =
-    record { sizes = record { rows_size = c.fill_fresh.ensures.rows_filled.size; killers_size = c.fill_fresh.ensures.killers_filled.size; slots_size = c.fill_fresh.ensures.slots_filled.size }; marks_len = c.requires.marks_len; fresh = rw c.fresh.ensures (fresh_is _ _ _ _ _ c.fill_fresh.ensures c.forget.ensures) }
+    rw c.fresh.ensures (fresh_is _ _ _ _ _ c.fill_fresh.ensures c.forget.ensures)
 
 pub returns : goal.returns
 returns c = file_counted _ _ _ _ _ _ c.take_all-replayed.ensures c.table_of-table.ensures

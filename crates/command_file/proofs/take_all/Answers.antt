@@ -1,17 +1,13 @@
 -- The loop keeps what `TakenTo` says: what was entered and what is left are all of the file. A round reads on, so the measure falls.
-use mathlib.Core.Path.{refl}
-use borrow.Author.Rules.{rules}
+use Rattle.std.proofs.Common.{refl}
 use Rattle.command_file.specs.Laws.Replay.{taken_none, taken_more, file_taken}
 use Rattle.command_file.proofs.take_all.Goals as goal
 
 pub loop-position-init : goal.loop-position-init
-loop-position-init c =
-    (c.requires.sizes, c.requires.marks_len, taken_none _ _ _ _ c.requires.marks_len refl refl refl c.requires.fresh)
+loop-position-init c = taken_none _ _ _ _ c.told-marks refl refl refl c.requires
 
 pub loop-position-preserved : goal.loop-position-preserved
-loop-position-preserved c =
-    (search rules, search rules, (taken_more _ _ _ _ _ _ c.loop-position.invariant.2 c.loop-position-test.true c.take_next-position.ensures).1)
+loop-position-preserved c = (taken_more _ _ _ _ _ _ c.loop-position.invariant c.loop-position-test.true c.take_next.ensures).1
 
 pub returns : goal.returns
-returns c =
-    file_taken _ _ _ _ c.loop-position.invariant.2 c.loop-position-test.false
+returns c = file_taken _ _ _ _ c.loop-position.invariant c.loop-position-test.false

@@ -1,20 +1,21 @@
 -- A FILE IS TAKEN COMMAND BY COMMAND: those that were entered and those that are left stay all of the file's, and after the last round none is left. The records that are
 -- counted then are those that the commands would have left one by one. Assumes nothing.
-use Rattle.std.specs.Prelude.{◌≡◌, refl, Bool, true, false, cond, List, [], ◌∷◌, ◌++◌, map, ◌≢◌, ℕ, zero, suc, ◌+◌, ◌≤◌, ◌<◌, length, get_or, leb, ltb}
+use Rattle.std.specs.Prelude.{◌≡◌, refl, Bool, true, false, cond, List, [], ◌∷◌, ◌++◌, map, ◌≢◌, ℕ, zero, suc, ◌+◌, ◌≤◌, ◌<◌, length, get_or, leb, ltb, Some, None, Ok, Err}
 use Rattle.std.proofs.Common.{sym, ap, subst, ◌∙◌, append_assoc, append-nil, arith, length-append, leb-true, le-leb, eq-eqb, ne_eqb}
-use Rattle.model.specs.declared.answer.Answer.{Answer}
+use Rattle.model.specs.declared.refusal.Refusal.{Refusal}
 use Rattle.model.specs.declared.command.Command.{Command}
 use Rattle.model.specs.declared.command.Read.{Read}
 use Rattle.model.specs.declared.command.Read.TheVariants as found
 use Rattle.model.specs.declared.command.Decoded.{Decoded}
 use Rattle.model.specs.Commands.{is_kind, body_size, command_at, counts_at, without, read_at}
-use Rattle.model.specs.declared.answer.Answer.TheVariants as answer
+use Rattle.model.specs.declared.refusal.Refusal.TheVariants as refused
 use Rattle.model.specs.Tests.{up_from}
 use Rattle.model.specs.Ledger.{Member, fresh, run, lengths, member}
-use Rattle.model.specs.Promise.{MemoryPromise, Promise}
+use Rattle.model.specs.Promise.{Answer, MemoryPromise, Promise}
 use Rattle.model.specs.Lists.{Runs, done, then, Entered, After}
 use Rattle.model.specs.Sheet.{input_most}
-use Rattle.model.specs.Numbers as refused
+use Rattle.model.specs.Refusals.{number, number_of}
+use Rattle.model.proofs.Laws.Refusals.{number_not_zero}
 use Rattle.model.proofs.Laws.Lists.{is_lengths, runs_represent}
 use Rattle.model.proofs.Laws.Summary.{current_one}
 use Rattle.summary_counts.specs.Counted.{Counted, counted_record}
@@ -22,7 +23,8 @@ use Rattle.summary_counts.specs.Laws.Counted.{counted_current}
 use Rattle.layout.specs.declared.value.Value.{Value}
 use Rattle.layout.specs.declared.value.Heads.{Heads}
 use Rattle.layout.specs.declared.summary.Summary.{Summary}
-use Rattle.layout.specs.Summary.{no_summary, no_records, no_table}
+use Rattle.layout.specs.declared.summary.Table.{Table}
+use Rattle.layout.specs.Summary.{no_summary, no_records}
 use Rattle.layout.specs.Memory.{State, MarkedState, Whole, state_of, marked_of, whole_of, lent_of, lent_with}
 use Rattle.layout.specs.Names.{no_names}
 use Rattle.layout.specs.Value.{fresh_value}
@@ -32,7 +34,7 @@ use Rattle.command_file.specs.declared.Position.{Position}
 use Rattle.command_run.specs.Store.{Stores}
 use Rattle.command_file.specs.Replay.{part_of, commands_by, commands_from, file_commands, end_by, end_from, file_end, ReplayPromise, FreshPromise, FreshBuffers, IsFresh, CommandTaken, FileEnded, TakenBy, Taken, TakenTo, FileTaken, FileCounted}
 use Rattle.command_run.specs.Laws.Lists.{entered_by}
-use Rattle.command_run.specs.Laws.Store.{promise_whole, stores_none, stores_all}
+use Rattle.command_run.specs.Laws.Store.{promise_whole}
 
 -- AT THE END there is no command, and nothing is refused
 commands_end : (n : ℕ) (s : List ℕ) (at : ℕ) → length s ≤ at → commands_from n s at ≡ []
@@ -57,8 +59,8 @@ command_inside s at c = go (leb (length s) at) (is_kind (get_or s at 0)) (leb (a
           counts = counts_at s (get_or s at 0) (at + 1);
           next = at + 1 + body_size (get_or s at 0);
         })
-        (without (found.Refused (get_or s at 0) refused.body_length) at))
-        (without (found.Refused (get_or s at 0) refused.unknown_kind) at)) in
+        (without (found.Refused (get_or s at 0) refused.BodyLength) at))
+        (without (found.Refused (get_or s at 0) refused.UnknownKind) at)) in
         d.read ≡ found.Command c → (at < d.next) × (d.next ≤ length s)
     go true b k f e = let z : ◌≡◌ {A = ℕ} 0 1 = cc in absurd (omega arith)
     go false true true f e = (omega arith, leb-true (at + 1 + body_size (get_or s at 0)) (length s) f)
@@ -72,7 +74,7 @@ decoded_inside s at d is c e =
 
 -- ONE ROUND OF THE CODE, at which d was read
 module _ (file : List ℕ) (p : Position) (before : MarkedState) (d : Decoded) (is : d ≡ read_at file p.at) (q : Position) where
-  pub taken_command : (after : MarkedState) (c : Command) → d.read ≡ found.Command c → q.at ≡ d.next → q.ran ≡ p.ran + 1 → q.number ≡ 0 → (given : Answer)
+  pub taken_command : (after : MarkedState) (c : Command) → d.read ≡ found.Command c → q.at ≡ d.next → q.ran ≡ p.ran + 1 → number_of q.ended ≡ 0 → (given : Answer)
       → MemoryPromise lengths before (part_of file p.at d.next) given after → Taken file p before q after
   taken_command after c e place count end given promise =
       record {
@@ -81,14 +83,14 @@ module _ (file : List ℕ) (p : Position) (before : MarkedState) (d : Decoded) (
             (record { place = place; count = count; end = end; given = given; promise = promise }));
       }
 
-  pub taken_refused : (k n : ℕ) → d.read ≡ found.Refused k n → q.at ≡ length file → q.ran ≡ p.ran → q.number ≡ n → Taken file p before q before
-  taken_refused k n e place count end =
+  pub taken_refused : (k : ℕ) (f : Refusal) → d.read ≡ found.Refused k f → q.at ≡ length file → q.ran ≡ p.ran → number_of q.ended ≡ number f → Taken file p before q before
+  taken_refused k f e place count end =
       record {
         by = subst (λ (x : Decoded). TakenBy x.read x.next file p before q before) is
             (subst (λ (r : Read). TakenBy r d.next file p before q before) (sym e) (record { place = place; count = count; end = end; same = refl }));
       }
 
-  pub taken_end : d.read ≡ found.End → q.at ≡ length file → q.ran ≡ p.ran → q.number ≡ 0 → Taken file p before q before
+  pub taken_end : d.read ≡ found.End → q.at ≡ length file → q.ran ≡ p.ran → number_of q.ended ≡ 0 → Taken file p before q before
   taken_end e place count end =
       record {
         by = subst (λ (x : Decoded). TakenBy x.read x.next file p before q before) is
@@ -96,7 +98,7 @@ module _ (file : List ℕ) (p : Position) (before : MarkedState) (d : Decoded) (
       }
 
 -- BEFORE THE FIRST ROUND
-pub taken_none : (first file : List ℕ) (p : Position) (s : MarkedState) → length first ≡ marks_length → p.at ≡ 0 → p.ran ≡ 0 → p.number ≡ 0 → IsFresh first s
+pub taken_none : (first file : List ℕ) (p : Position) (s : MarkedState) → length first ≡ marks_length → p.at ≡ 0 → p.ran ≡ 0 → number_of p.ended ≡ 0 → IsFresh first s
     → TakenTo first file p s
 unfolding file_commands file_end
 taken_none first file p s size place count end fresh =
@@ -132,17 +134,17 @@ counted_table_lem heads slots =
     record { size = all_places (counted_record heads slots) 0 records_length; each = λ c lc. at_place (counted_record heads slots) no_summary 0 records_length c lc (omega arith) }
 
 abbrev table_after : Answer → MarkedState → List Summary → List Summary
-table_after (answer.Accepted r) after old = counted_table after.state.value.heads after.state.slots
-table_after (answer.Refused n) after old = old
+table_after (Ok r) after old = counted_table after.state.value.heads after.state.slots
+table_after (Err f) after old = old
 
 taken_whole : (s after : MarkedState) (bytes : List ℕ) (given : Answer) (old : List Summary) → lent_with (whole_of s old) ≡ lengths → MemoryPromise lengths s bytes given after
     → Promise (whole_of s old) bytes given (whole_of after (table_after given after old))
-taken_whole s after bytes (answer.Accepted r) old lent promise =
+taken_whole s after bytes (Ok r) old lent promise =
     let new = counted_table after.state.value.heads after.state.slots in
-    promise_whole s after bytes (answer.Accepted r) old new lent promise (λ m d. let z : ◌≡◌ {A = ℕ} 0 1 = cc in absurd (omega arith))
+    promise_whole s after bytes (Ok r) old new lent promise (λ m d. let z : ◌≡◌ {A = ℕ} 0 1 = cc in absurd (omega arith))
     (λ z L shape rep. counted_current L after.state shape rep new (counted_table_lem after.state.value.heads after.state.slots))
-taken_whole s after bytes (answer.Refused n) old lent promise =
-    promise_whole s after bytes (answer.Refused n) old old lent promise (λ m d. refl) (λ z. absurd (promise.never_zero (ap answer.Refused z)))
+taken_whole s after bytes (Err f) old lent promise =
+    promise_whole s after bytes (Err f) old old lent promise (λ m d. refl) (λ z. absurd (number_not_zero f z))
 
 -- one command more at the end of a list
 runs_more : {s s' s'' : Whole} {ms : List Member} {m : Member} → Runs Whole Member Entered s ms s' → Entered m s' s'' → Runs Whole Member Entered s (ms ++ (m ∷ [])) s''
@@ -215,7 +217,7 @@ module _ (begun file : List ℕ) (p q : Position) (before after : MarkedState) (
     one_more : (r : Read) → d.read ≡ r → TakenBy r d.next file p before q after → t.taken ++ commands_by r bytes (commands_from n file d.next) ≡ file_commands file
         → end_by r (end_from n file d.next) ≡ file_end file → (p.at < q.at) × TakenTo begun file q after
     one_more (found.Command c) e by all end = more c e by all end
-    one_more (found.Refused k m) e by all end = ended m by all end
+    one_more (found.Refused k f) e by all end = ended (number f) by all end
     one_more found.End e by all end = ended 0 by all end
 
   pub taken_more : Taken file p before q after → (p.at < q.at) × TakenTo begun file q after
@@ -228,7 +230,7 @@ module _ (begun file : List ℕ) (p q : Position) (before after : MarkedState) (
           one_more (read_at file p.at) (command_inside file p.at) n enough (read_at file p.at).read refl r.by all end
 
 -- AFTER THE LAST
-pub file_taken : (first file : List ℕ) (p : Position) (s : MarkedState) → TakenTo first file p s → length file ≤ p.at → FileTaken first file p.number p.ran s
+pub file_taken : (first file : List ℕ) (p : Position) (s : MarkedState) → TakenTo first file p s → length file ≤ p.at → FileTaken first file (number_of p.ended) p.ran s
 file_taken first file p s t last =
     record {
       table = t.table;
@@ -243,9 +245,9 @@ file_taken first file p s t last =
 
 -- the records that are counted then are those that the commands left: a board has one current table
 pub file_counted : (first file : List ℕ) (number ran : ℕ) (s : MarkedState) (records : List Summary) → FileTaken first file number ran s
-    → Counted s.state.value.heads s.state.slots records → FileCounted first file number ran records_length (whole_of s records)
+    → Counted s.state.value.heads s.state.slots records → FileCounted first file number ran (whole_of s records)
 file_counted first file number ran s records t counted =
-    record { stands = subst (λ (l : List Summary). After first ms (whole_of s l)) same t.stands; count = t.count; end = t.end; all = refl }
+    record { stands = subst (λ (l : List Summary). After first ms (whole_of s l)) same t.stands; count = t.count; end = t.end }
   where
     ms : List Member
     ms = map member (file_commands file)
@@ -278,64 +280,70 @@ module _ (s : MarkedState) (file : List ℕ) (n : ℕ) where
   abbrev Kept : ℕ → ℕ → MarkedState → List Summary → List Summary → Type 0
   Kept number ran after old new = ReplayPromise (whole_of s old) file number ran (whole_of after new)
 
-  pub replay_lengths : bad_buffers? (lent_of s.state) (length s.marks) ≡ true → Stores (Kept refused.buffer_length 0 s) n 0 no_table.records
+  pub replay_lengths : bad_buffers? (lent_of s.state) (length s.marks) ≡ true → Stores (Kept (number refused.BufferLength) 0 s) n None
   replay_lengths bad =
-      stores_none
-      (λ old size.
       record {
-        number_is = rw bad refl;
-        unchanged = λ m e. refl;
-        none_ran = λ m e. refl;
-        stands = λ e. let z = rw bad at e in absurd (omega arith);
-        all_ran = λ e. let z = rw bad at e in absurd (omega arith);
-      })
+        room = tt;
+        all = λ old size.
+            record {
+              number_is = rw bad refl;
+              unchanged = λ m e. refl;
+              none_ran = λ m e. refl;
+              stands = λ e. let z = rw bad at e in absurd (omega arith);
+              all_ran = λ e. let z = rw bad at e in absurd (omega arith);
+            };
+      }
 
   module _ (good : bad_buffers? (lent_of s.state) (length s.marks) ≡ false) where
-    pub replay_table : n ≢ records_length → Stores (Kept refused.table_length 0 s) n 0 no_table.records
+    pub replay_table : n ≢ records_length → Stores (Kept (number refused.TableLength) 0 s) n None
     replay_table other =
-        stores_none
-        (λ old size.
-        let bad : bad_table? (lent_with (whole_of s old)) ≡ true = rw (size, ne_eqb n records_length other) refl in
         record {
-          number_is = rw (good, bad) refl;
-          unchanged = λ m e. refl;
-          none_ran = λ m e. refl;
-          stands = λ e. let z = rw (good, bad) at e in absurd (omega arith);
-          all_ran = λ e. let z = rw (good, bad) at e in absurd (omega arith);
-        })
+          room = tt;
+          all = λ old size.
+              let bad : bad_table? (lent_with (whole_of s old)) ≡ true = rw (size, ne_eqb n records_length other) refl in
+              record {
+                number_is = rw (good, bad) refl;
+                unchanged = λ m e. refl;
+                none_ran = λ m e. refl;
+                stands = λ e. let z = rw (good, bad) at e in absurd (omega arith);
+                all_ran = λ e. let z = rw (good, bad) at e in absurd (omega arith);
+              };
+        }
 
     module _ (right : n ≡ records_length) where
       table_right : (old : List Summary) → length old ≡ n → bad_table? (lent_with (whole_of s old)) ≡ false
       table_right old size = rw (size, eq-eqb n records_length right) refl
 
-      pub replay_long : ltb input_most (length file) ≡ true → Stores (Kept refused.file_length 0 s) n 0 no_table.records
+      pub replay_long : ltb input_most (length file) ≡ true → Stores (Kept (number refused.FileLength) 0 s) n None
       replay_long long =
-          stores_none
-          (λ old size.
-          let fits = table_right old size in
           record {
-            number_is = rw (good, fits, long) refl;
-            unchanged = λ m e. refl;
-            none_ran = λ m e. refl;
-            stands = λ e. let z = rw (good, fits, long) at e in absurd (omega arith);
-            all_ran = λ e. let z = rw (good, fits, long) at e in absurd (omega arith);
-          })
+            room = tt;
+            all = λ old size.
+                let fits = table_right old size in
+                record {
+                  number_is = rw (good, fits, long) refl;
+                  unchanged = λ m e. refl;
+                  none_ran = λ m e. refl;
+                  stands = λ e. let z = rw (good, fits, long) at e in absurd (omega arith);
+                  all_ran = λ e. let z = rw (good, fits, long) at e in absurd (omega arith);
+                };
+          }
 
-      pub replay_file : (number ran count : ℕ) (after : MarkedState) (records : List Summary) → ltb input_most (length file) ≡ false
-          → FileCounted s.marks file number ran count (whole_of after records) → Stores (Kept number ran after) n count records
-      replay_file number ran count after records short t =
-          let current = (runs_represent (map member (file_commands file)) (whole_of after records) t.stands).2 in
-          subst (λ (k : ℕ). Stores (Kept number ran after) n k records) (sym t.all)
-          (stores_all right current.size
-          (λ old size.
-          let fits = table_right old (size ∙ sym right) in
+      pub replay_file : (number ran : ℕ) (after : MarkedState) (table : Table) → ltb input_most (length file) ≡ false
+          → FileCounted s.marks file number ran (whole_of after table.records) → Stores (Kept number ran after) n (Some table)
+      replay_file number ran after table short t =
           record {
-            number_is = rw (good, fits, short) t.end;
-            unchanged = λ m e. let z = rw (good, fits, short) at e in absurd (omega arith);
-            none_ran = λ m e. let z = rw (good, fits, short) at e in absurd (omega arith);
-            stands = λ e. t.stands;
-            all_ran = λ e. t.count;
-          }))
+            room = right;
+            all = λ old size.
+                let fits = table_right old size in
+                record {
+                  number_is = rw (good, fits, short) t.end;
+                  unchanged = λ m e. let z = rw (good, fits, short) at e in absurd (omega arith);
+                  none_ran = λ m e. let z = rw (good, fits, short) at e in absurd (omega arith);
+                  stands = λ e. t.stands;
+                  all_ran = λ e. t.count;
+                };
+          }
 
 -- A FILE WITHOUT COMMANDS MAKES A FRESH BOARD (SCOPE 2.8), whatever the memory held
 stays : {s s' : Whole} → Runs Whole Member Entered s [] s' → s' ≡ s

@@ -1,5 +1,5 @@
 -- KIND 6'S CHECKS ARE THE LEDGER'S CONDITIONS on a state that is a ledger's, and the draft that it leaves is the stepped ledger's. Assumes nothing.
-use Rattle.std.specs.Prelude.{◌≡◌, refl, Bool, false, ◌||◌, List, ℕ, zero, suc, ◌<◌, ◌≤◌, length, ltb, leb}
+use Rattle.std.specs.Prelude.{◌≡◌, refl, Bool, false, ◌||◌, List, ℕ, zero, suc, ◌<◌, ◌≤◌, length, ltb, leb, Result, Ok, Err}
 use Rattle.std.proofs.Common.{sym, ap, ◌∙◌, arith, le-ltb, lt-ltb, ltb-false, leb-false}
 use Rattle.layout.specs.declared.value.Heads.{Heads}
 use Rattle.layout.specs.declared.value.Draft.{Draft}
@@ -11,13 +11,14 @@ use Rattle.model.specs.Board.{cancelled_on?}
 use Rattle.model.specs.Gaps.{rule_of_gap}
 use Rattle.model.specs.Ledger.{Ledger, LedgerShape, kind_conditions}
 use Rattle.model.specs.Representation.{Stored}
-use Rattle.model.specs.Refusals.{first_of}
+use Rattle.model.specs.Refusals.{number, first_of, number_of}
 use Rattle.model.specs.Numbers as refused
 use Rattle.model.proofs.Laws.Cancelled.{cancelled_held}
 use Rattle.model.proofs.Laws.Tests.{or_false}
 use Rattle.model.proofs.Laws.Heads.{no_calls}
-use Rattle.model.proofs.Laws.Refusals.{Agree, none as no_more, next, agree_first, none_holds, first_stands, rest_decides}
-use Rattle.command_draft.specs.declared.redraft.Redrafted.{Redrafted}
+use Rattle.model.proofs.Laws.Refusals.{Agree, none as no_more, next, agree_first, none_holds, number_not_zero, first_stands, rest_decides}
+use Rattle.model.specs.declared.refusal.Refusal.{Refusal}
+use Rattle.model.specs.declared.refusal.Refusal.TheVariants as kind_of_refusal
 use Rattle.command_draft.specs.Fields.{off_board?}
 use Rattle.command_draft.proofs.Laws.Fields.{off_board_same}
 use Rattle.command_draft.proofs.Laws.Redraft.{RedraftRight}
@@ -27,31 +28,31 @@ use Rattle.command_gap.specs.Checks.{field_checks, pair_checks, gap_checks, Redr
 use Rattle.command_gap.proofs.Laws.Draft.{pairs_are_rows, gap_held}
 
 -- WHAT IS GIVEN BACK, on any counts and slot bytes: refused by a field, by the number of pairs, or not at all
-module _ (counts slots : List ℕ) (f : GapRule) (old : Draft) where
-  pub redraws_refused : (n : ℕ) → n ≡ first_of (field_checks counts slots f) → (n ≡ 0 → ⊥) → RedrawsGap counts slots f old (record { number = n; draft = old })
-  redraws_refused zero e ne = absurd (ne refl)
-  redraws_refused (suc n) e ne =
-      record { number = sym (first_stands (field_checks counts slots f) (pair_checks counts f) n (sym e)); kept = λ _. refl; drawn = λ z. absurd (ne z) }
+module _ (counts slots : List ℕ) (f : GapRule) where
+  refused_draws : (e : Refusal) → number e ≡ first_of (gap_checks counts slots f) → RedrawsGap counts slots f (Err e)
+  refused_draws e is = record { number = is; drawn = λ d q. let z : ◌≡◌ {A = ℕ} 0 1 = cc in absurd (omega arith) }
+
+  pub redraws_refused : (e : Refusal) → number e ≡ first_of (field_checks counts slots f) → RedrawsGap counts slots f (Err e)
+  redraws_refused e is = refused_draws e (stands (number e) refl)
+    where
+      stands : (n : ℕ) → number e ≡ n → number e ≡ first_of (gap_checks counts slots f)
+      stands zero z = absurd (number_not_zero e z)
+      stands (suc n) z = z ∙ sym (first_stands (field_checks counts slots f) (pair_checks counts f) n (sym is ∙ z))
 
   -- the fields pass, and so many pairs fit
-  module _ (n : ℕ) (e : n ≡ first_of (field_checks counts slots f)) (passes : n ≡ 0) (made : GapDraft) (by : DraftOfGap counts f made) where
+  module _ (passes : 0 ≡ first_of (field_checks counts slots f)) (made : GapDraft) (by : DraftOfGap counts f made) where
     last_decides : first_of (gap_checks counts slots f) ≡ first_of (pair_checks counts f)
-    last_decides = rest_decides (field_checks counts slots f) (pair_checks counts f) tt (sym e ∙ passes)
+    last_decides = rest_decides (field_checks counts slots f) (pair_checks counts f) tt (sym passes)
 
-    pub redraws_full : 64 < made.count → RedrawsGap counts slots f old (record { number = refused.too_many_pairs; draft = old })
+    pub redraws_full : 64 < made.count → RedrawsGap counts slots f (Err kind_of_refusal.TooManyPairs)
     redraws_full many =
-        record {
-          number = sym (last_decides ∙ rw (lt-ltb 64 (length (rows_by counts f)) (omega (arith, by.listed.count_is))) refl);
-          kept = λ _. refl;
-          drawn = λ z. absurd (omega arith);
-        }
+        refused_draws kind_of_refusal.TooManyPairs (sym (last_decides ∙ rw (lt-ltb 64 (length (rows_by counts f)) (omega (arith, by.listed.count_is))) refl))
 
-    pub redraws_made : made.count ≤ 64 → RedrawsGap counts slots f old (record { number = n; draft = made.draft })
+    pub redraws_made : made.count ≤ 64 → RedrawsGap counts slots f (Ok made.draft)
     redraws_made few =
         record {
-          number = passes ∙ sym (last_decides ∙ rw (le-ltb 64 (length (rows_by counts f)) (omega (arith, by.listed.count_is))) refl);
-          kept = λ ne. absurd (ne passes);
-          drawn = λ _. whole;
+          number = sym (last_decides ∙ rw (le-ltb 64 (length (rows_by counts f)) (omega (arith, by.listed.count_is))) refl);
+          drawn = λ d e. let same : made.draft ≡ d = cc in rw (← same) whole;
         }
       where
         all : made.draft.rule.length ≡ made.count
@@ -102,17 +103,18 @@ module _ (L : Ledger) (shape : LedgerShape L) {heads : Heads} {rows killers slot
   gap_first : (ns : List ℕ) → first_of (gap_checks heads.counts slots f) ≡ first_of (kind_conditions L (kind.Gap f) ns)
   gap_first ns = agree_first (gap_checks_agree ns)
 
--- KIND 6, from what is given back of the draft
+-- KIND 6, from what is given back
 module _ (value : Value) (slots : List ℕ) (f : GapRule) where
-  pub gap_right : {r : Redrafted} → RedrawsGap value.heads.counts slots f value.draft r → RedraftRight value slots (kind.Gap f) r
+  pub gap_right : {r : Result Draft Refusal} → RedrawsGap value.heads.counts slots f r → RedraftRight value slots (kind.Gap f) r
   gap_right {r} given =
       record {
         number = λ L shape rows killers is ns. given.number ∙ gap_first L shape is.stored f ns;
-        drafted = λ z L shape rows killers is ns.
-            let good = none_holds (kind_conditions L (kind.Gap f) ns) tt (sym (gap_first L shape is.stored f ns) ∙ sym given.number ∙ z) in
+        drafted = λ d e L shape rows killers is ns.
+            let passes : number_of r ≡ 0 = ap number_of e in
+            let good = none_holds (kind_conditions L (kind.Gap f) ns) tt (sym (gap_first L shape is.stored f ns) ∙ sym given.number ∙ passes) in
             let there = calls_on L shape is.stored f (good refused.call_off_board) in
             let few = ltb-false 64 (length (rule_of_gap L.board.counts f).rows) (good refused.too_many_pairs) in
-            record { number = (given.drawn z).number; rule = gap_held L.board shape.board value.heads is.stored.headed f _ (given.drawn z) there.0 there.1 few };
+            record { number = (given.drawn d e).number; rule = gap_held L.board shape.board value.heads is.stored.headed f _ (given.drawn d e) there.0 there.1 few };
         board = λ L ns. refl;
         report = λ B before after. record { struck = refl; reopened = refl; own = refl };
       }

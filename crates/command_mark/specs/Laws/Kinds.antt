@@ -1,5 +1,5 @@
 -- KINDS 7 AND 8 KEEP THEIR PROMISE: their checks are the ledger's, and what they leave is the stepped ledger's. Assumes nothing.
-use Rattle.std.specs.Prelude.{◌≡◌, refl, false, List, [], ◌∷◌, ℕ, zero, suc, ◌<◌, get_or, set, eqb}
+use Rattle.std.specs.Prelude.{◌≡◌, refl, false, List, ℕ, zero, suc, ◌<◌, get_or, set, eqb, Err}
 use Rattle.std.proofs.Common.{sym, ap, ◌∙◌, true≢false, arith, get_or-set_same, get_or-set_other, ltb-false}
 use Rattle.std.proofs.Math.Option.{Option, none, some}
 use Rattle.std.proofs.Math.Decide.{ℕ_discrete}
@@ -10,22 +10,21 @@ use Rattle.layout.specs.Names.{Mark, mark_of, heads_under, mark_under, with_mark
 use Rattle.layout.specs.Laws.Names.{under_own, under_other, with_name_size}
 use Rattle.layout.specs.Laws.Marks.{with_mark_size}
 use Rattle.layout.specs.Memory.{State, MarkedState, state_of, marked_of}
-use Rattle.model.specs.declared.answer.Answer.{Answer}
-use Rattle.model.specs.declared.answer.Answer.TheVariants as answer
+use Rattle.model.specs.declared.refusal.Refusal.{Refusal}
 use Rattle.model.specs.declared.answer.Outcome.{Outcome}
 use Rattle.model.specs.declared.command.Command.TheVariants as kind
 use Rattle.model.specs.Board.{Board}
 use Rattle.model.specs.Tests.{is_none}
 use Rattle.model.specs.Ledger.{Ledger, LedgerShape, kept_under, kept_or, bad_name?, kind_conditions, effect}
 use Rattle.model.specs.Marks.{MarkHeld, RepresentsMarked, kept_as, state_back, brought_back}
-use Rattle.model.specs.Refusals.{first_of, or_else}
-use Rattle.model.specs.Promise.{accepted_with}
+use Rattle.model.specs.Refusals.{number, first_of}
+use Rattle.model.specs.Promise.{Answer, accepted_with}
 use Rattle.model.specs.Representation.{Represents}
 use Rattle.model.proofs.Laws.Fresh.{fresh_represents}
 use Rattle.model.proofs.Laws.Heads.{no_calls}
 use Rattle.model.proofs.Laws.Marks.{stored_sizes, headed_sized, keep_kept, other_held}
 use Rattle.model.proofs.Laws.Promised.{marked_refused, marked_accepted}
-use Rattle.model.proofs.Laws.Refusals.{none_holds, chain_first, chain_append}
+use Rattle.model.proofs.Laws.Refusals.{none_holds}
 use Rattle.model.proofs.Laws.Refusals as refusals
 use Rattle.model.specs.Numbers as refused
 use Rattle.command_mark.specs.Checks.{keep_checks, kept_byte, back_checks}
@@ -96,35 +95,35 @@ module _ (L : Ledger) (shape : LedgerShape L) (m : MarkedState) (is : Represents
         go (some B) i held = record { stored = held.stored; drafted = fresh_represents.drafted }
 
 -- KIND 7 KEEPS ITS PROMISE
-module _ (name : ℕ) (before : MarkedState) (n : ℕ) where
-  pub keep_refused : (n ≡ 0 → ⊥) → n ≡ first_of (keep_checks before.state.value.heads.counts name) → MarkPromise (kind.Keep name) before (answer.Refused n) before
-  keep_refused ne e ns = marked_refused before (kind.Keep name) ns n ne (λ L shape is. e ∙ keep_checks_same L shape before is name ns)
+module _ (name : ℕ) (before : MarkedState) where
+  pub keep_refused : (f : Refusal) → number f ≡ first_of (keep_checks before.state.value.heads.counts name) → MarkPromise (kind.Keep name) before (Err f) before
+  keep_refused f e ns = marked_refused before (kind.Keep name) ns f (λ L shape is. e ∙ keep_checks_same L shape before is name ns)
 
-  pub keep_accepted : (given : Answer) (after : MarkedState) → n ≡ 0 → n ≡ first_of (keep_checks before.state.value.heads.counts name) → name < 2
+  pub keep_accepted : (given : Answer) (after : MarkedState) → 0 ≡ first_of (keep_checks before.state.value.heads.counts name) → name < 2
       → KeepsBoard name before given after → MarkPromise (kind.Keep name) before given after
-  keep_accepted given after z e known keeps ns =
+  keep_accepted given after e known keeps ns =
       rw (keeps.answer_is, keeps.left)
       (marked_accepted before (kind.Keep name) ns (kept_as before name) (record { struck = 0; reopened = 0; touched = 0 }) refl
       (λ L shape is. (
-        sym z ∙ e ∙ keep_checks_same L shape before is name ns,
+        e ∙ keep_checks_same L shape before is name ns,
         record { struck = refl; reopened = refl; own = refl },
         keep_represents L shape before is name ns known,
       )))
 
   -- AND KIND 8
-  pub back_refused : (n ≡ 0 → ⊥) → n ≡ first_of (back_checks before.state.value.heads.counts before.names name)
-      → MarkPromise (kind.Back name) before (answer.Refused n) before
-  back_refused ne e ns = marked_refused before (kind.Back name) ns n ne (λ L shape is. e ∙ back_checks_same L shape before is name ns)
+  pub back_refused : (f : Refusal) → number f ≡ first_of (back_checks before.state.value.heads.counts before.names name)
+      → MarkPromise (kind.Back name) before (Err f) before
+  back_refused f e ns = marked_refused before (kind.Back name) ns f (λ L shape is. e ∙ back_checks_same L shape before is name ns)
 
-  pub back_accepted : (given : Answer) (after : State) → n ≡ 0
-      → n ≡ first_of (back_checks before.state.value.heads.counts before.names name) → name < 2
+  pub back_accepted : (given : Answer) (after : State)
+      → 0 ≡ first_of (back_checks before.state.value.heads.counts before.names name) → name < 2
       → BringsBack name before.names before.marks before.state.slots given after
       → MarkPromise (kind.Back name) before given (marked_of after before.names before.marks)
-  back_accepted given after z e known brings ns =
+  back_accepted given after e known brings ns =
       rw (brings.answer_is, brings.left)
       (marked_accepted before (kind.Back name) ns (brought_back before name) (back_report before.state.slots (state_back before name).slots) refl
       (λ L shape is.
-      let none = sym z ∙ e ∙ back_checks_same L shape before is name ns in
+      let none = e ∙ back_checks_same L shape before is name ns in
       let some-kept = none_holds (kind_conditions L (kind.Back name) ns) tt (sym none) refused.nothing_kept in (
         none,
         record { struck = refl; reopened = refl; own = refl },
@@ -132,11 +131,11 @@ module _ (name : ℕ) (before : MarkedState) (n : ℕ) where
       )))
 
 -- where nothing is refused the name is 0 or 1
-pub name_known : (counts : List ℕ) (name n : ℕ) → n ≡ 0 → n ≡ first_of (keep_checks counts name) → name < 2
-name_known counts name n z e = omega (arith, ltb-false 1 name (none_holds (keep_checks counts name) tt (sym e ∙ z) refused.bad_name))
+pub name_known : (counts : List ℕ) (name : ℕ) → 0 ≡ first_of (keep_checks counts name) → name < 2
+name_known counts name e = omega (arith, ltb-false 1 name (none_holds (keep_checks counts name) tt (sym e) refused.bad_name))
 
-pub back_known : (counts names : List ℕ) (name n : ℕ) → n ≡ 0 → n ≡ first_of (back_checks counts names name) → name < 2
-back_known counts names name n z e = omega (arith, ltb-false 1 name (none_holds (back_checks counts names name) tt (sym e ∙ z) refused.bad_name))
+pub back_known : (counts names : List ℕ) (name : ℕ) → 0 ≡ first_of (back_checks counts names name) → name < 2
+back_known counts names name e = omega (arith, ltb-false 1 name (none_holds (back_checks counts names name) tt (sym e) refused.bad_name))
 
 -- WHAT THE FUNCTIONS UNDER THEM LEAVE, from their parts
 pub keeps_board : (value : Value) (name : ℕ) (names rows killers slots marks : List ℕ) {r : Outcome} {names' marks' : List ℕ} → r ≡ accepted_with 0 0 0 value
@@ -149,14 +148,3 @@ pub brings_back : (name : ℕ) (names marks slots : List ℕ) {r : Outcome} {cha
     → BringsBack name names marks slots r.answer (state_of r.value rows' killers' slots')
 brings_back name names marks slots under between back e =
     rw (e, back.rows_are, back.killers_are, back.slots_are, under) (record { answer_is = rw (between.struck, between.reopened) refl; left = refl })
-
--- one check more behind those that the code has made
-pub checked_more : (counts names : List ℕ) (name : ℕ) {kept n r : ℕ} → kept ≡ kept_byte names name → n ≡ first_of (keep_checks counts name)
-    → r ≡ or_else n (eqb kept 0) refused.nothing_kept → r ≡ first_of (back_checks counts names name)
-checked_more counts names name {kept} {n} {r} k e e' =
-    let holds = eqb (kept_byte names name) 0 in
-    e'
-    ∙ ap (λ (b : ℕ). or_else n (eqb b 0) refused.nothing_kept) k
-    ∙ ap (λ (k : ℕ). or_else k holds refused.nothing_kept) (e ∙ sym (chain_first (keep_checks counts name) tt))
-    ∙ sym (chain_append 0 (keep_checks counts name) ((holds, refused.nothing_kept) ∷ []))
-    ∙ chain_first (back_checks counts names name) tt

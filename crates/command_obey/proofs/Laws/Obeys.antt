@@ -1,12 +1,11 @@
 -- How each kind keeps its promise, and how the entry's promise follows from it. Assumes nothing.
-use Rattle.std.specs.Prelude.{◌≡◌, refl, List, ℕ, zero, suc, ◌≤◌, ◌<◌, length, get_or}
+use Rattle.std.specs.Prelude.{◌≡◌, refl, List, ℕ, zero, suc, ◌≤◌, ◌<◌, length, get_or, Ok, Err}
 use Rattle.std.proofs.Common.{sym, ap, subst, ◌∙◌, arith}
 use Rattle.std.proofs.Math.Option.{none}
 use Rattle.layout.specs.Names.{Mark, no_mark, names_length, no_names, mark_under}
 use Rattle.layout.specs.Memory.{State, MarkedState, marked_of}
 use Rattle.model.specs.declared.answer.Report.{Report}
-use Rattle.model.specs.declared.answer.Answer.{Answer}
-use Rattle.model.specs.declared.answer.Answer.TheVariants as answer
+use Rattle.model.specs.declared.refusal.Refusal.{Refusal}
 use Rattle.model.specs.declared.command.Command.{Command}
 use Rattle.model.specs.declared.command.Command.TheVariants as kind
 use Rattle.model.specs.declared.command.Read.TheVariants as found
@@ -15,9 +14,10 @@ use Rattle.model.specs.Commands.{kind_of, read_at}
 use Rattle.model.specs.Ledger.{Ledger, none_kept, kept_under, kind_conditions, effect, obey, fresh, lengths}
 use Rattle.model.specs.Representation.{Represents}
 use Rattle.model.specs.Marks.{MarkHeld, RepresentsMarked, LeavesMarks}
-use Rattle.model.specs.Promise.{number_of, NeverZero, Obeyed, ObeyedMarked, KindPromise, MarkedPromise, MemoryPromise}
-use Rattle.model.specs.Refusals.{first_of}
-use Rattle.model.proofs.Laws.Answers.{refused_by, never_zero_by}
+use Rattle.model.specs.Promise.{Answer, Obeyed, ObeyedMarked, KindPromise, MarkedPromise, MemoryPromise}
+use Rattle.model.specs.Refusals.{first_of, number_of}
+use Rattle.model.proofs.Laws.Answers.{refused_by, never_zero}
+use Rattle.model.proofs.Laws.Refusals.{number_not_zero}
 use Rattle.model.proofs.Laws.Entry.{well_formed, kind_promise}
 use Rattle.layout.specs.Laws.Names.{no_names_size, none_under}
 use Rattle.command_board.specs.Made.{MakesBoard}
@@ -26,7 +26,7 @@ use Rattle.command_obey.specs.Obeys.{MakesAnew, Obeys, names_after}
 -- A PROMISE OF THE STATE BECOMES ONE WITH THE MARKS, whose bytes are as they were: the names stay where it is refused, and else are those that the kind has to leave and
 -- the stepped ledger holds
 module _ {s s' : State} {c : Command} {ns : List ℕ} {given : Answer} (p : KindPromise s c ns given s') (names names' marks : List ℕ)
-    (stay : (n : ℕ) → given ≡ answer.Refused n → names' ≡ names)
+    (stay : (e : Refusal) → given ≡ Err e → names' ≡ names)
     (left : number_of given ≡ 0 → LeavesMarks c (marked_of s names marks) (marked_of s' names' marks))
     (size : length names ≡ names_length → length names' ≡ names_length)
     (held : (L : Ledger) → RepresentsMarked L (marked_of s names marks) → (n : ℕ) → number_of given ≡ n → (name : ℕ) → name < 2
@@ -106,7 +106,7 @@ board_kind : {s s' : State} {ns : List ℕ} {given : Answer} → MakesBoard ns s
 board_kind {s} {s'} {ns} {given} m =
     record {
       refused = m.refused;
-      never_zero = never_zero_by given (first_of (kind_conditions fresh kind.Board ns)) none_changed m.made.number m.made.values;
+      never_zero = never_zero given;
       obeyed = λ L shape rep. obeyed L rep;
     }
   where
@@ -125,16 +125,16 @@ board_kind {s} {s'} {ns} {given} m =
       where
         go : (k : ℕ) → number_of given ≡ k → (k ≡ 0 → Represents (effect fresh kind.Board ns) s') → Represents (obey k L (found.Command kind.Board) ns) s'
         go zero e made = let board = made refl in record { stored = board.stored; drafted = board.drafted }
-        go (suc k) e made = subst (λ (x : State). Represents L x) (sym (m.refused (suc k) (refused_by given k e))) rep
+        go (suc k) e made = subst (λ (x : State). Represents L x) (let r = refused_by given k e in sym (m.refused r.0 r.1)) rep
 
 -- both names are forgotten where it is accepted
-forgotten : (given : Answer) (names : List ℕ) → NeverZero given → number_of given ≡ 0 → names_after given names ≡ no_names
-forgotten (answer.Accepted r) names never z = refl
-forgotten (answer.Refused n) names never z = absurd (never (ap answer.Refused z))
+forgotten : (given : Answer) (names : List ℕ) → number_of given ≡ 0 → names_after given names ≡ no_names
+forgotten (Ok r) names z = refl
+forgotten (Err e) names z = absurd (number_not_zero e z)
 
 after_size : (given : Answer) (names : List ℕ) → length names ≡ names_length → length (names_after given names) ≡ names_length
-after_size (answer.Accepted r) names size = no_names_size
-after_size (answer.Refused n) names size = size
+after_size (Ok r) names size = no_names_size
+after_size (Err e) names size = size
 
 -- the ledger keeps nothing then
 bare_held : (m : Mark) (marks : List ℕ) (name : ℕ) → m ≡ no_mark → name < 2 → MarkHeld (get_or none_kept name none) m marks name
@@ -155,12 +155,12 @@ board_obeys {s} {s'} {c} {ns} {names} {names'} {marks} {given} is m = rw (is, m.
     held : (L : Ledger) → RepresentsMarked L (marked_of s names marks) → (n : ℕ) → number_of given ≡ n → (name : ℕ) → name < 2
         → MarkHeld (kept_under (obey n L (found.Command kind.Board) ns) name) (mark_under left name) marks name
     held L is zero z name known =
-        rw (forgotten given names p.never_zero z) (bare_held (mark_under no_names name) marks name (none_under name known) known)
-    held L is (suc n) z name known = rw (refused_by given n z) (is.held name known)
+        rw (forgotten given names z) (bare_held (mark_under no_names name) marks name (none_under name known) known)
+    held L is (suc n) z name known = rw (refused_by given n z).1 (is.held name known)
 
     promise : MarkedPromise (marked_of s names marks) kind.Board ns given (marked_of s' left marks)
     promise =
-        with_marks p names left marks (λ n z. rw z refl) (λ z. record { names_are = forgotten given names p.never_zero z; marks_are = refl }) (after_size given names) held
+        with_marks p names left marks (λ n z. rw z refl) (λ z. record { names_are = forgotten given names z; marks_are = refl }) (after_size given names) held
 
 -- KINDS 7 AND 8 promise of the marks themselves
 pub mark_obeys : {before after : MarkedState} {c d : Command} {ns : List ℕ} {given : Answer} → c ≡ d → 7 ≤ kind_of d → MarkedPromise before d ns given after

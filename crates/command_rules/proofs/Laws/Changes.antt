@@ -1,16 +1,15 @@
 -- WHAT A POST AND A RETRACTION LEAVE is the stepped ledger's, and their reports are right. Assumes nothing.
-use Rattle.std.specs.Prelude.{◌≡◌, refl, Bool, false, not, List, ℕ, ◌%◌, ◌<◌, length, get_or}
+use Rattle.std.specs.Prelude.{◌≡◌, refl, Bool, false, not, List, ℕ, ◌%◌, ◌<◌, length, get_or, Err}
 use Rattle.std.proofs.Common.{sym, ◌∙◌, true≢false, arith, ltb-false}
 use Rattle.std.proofs.Math.Option.{Option, none, some}
-use Rattle.model.specs.declared.answer.Answer.{Answer}
-use Rattle.model.specs.declared.answer.Answer.TheVariants as answer
+use Rattle.model.specs.declared.refusal.Refusal.{Refusal}
 use Rattle.model.specs.declared.command.Command.TheVariants as kind
 use Rattle.model.specs.Board.{Rule, Board, GoodRule}
 use Rattle.model.specs.Tests.{is_none}
 use Rattle.model.specs.Ledger.{NumberedRule, Ledger, LedgerShape, draft_or, not_in_force?, with_rule, kind_conditions, effect}
 use Rattle.model.specs.Report.{Reports}
 use Rattle.model.specs.Representation.{RuleHeld, Drafted, Represents}
-use Rattle.model.specs.Promise.{KindPromise}
+use Rattle.model.specs.Promise.{Answer, KindPromise}
 use Rattle.model.proofs.Laws.Fresh.{empty_held}
 use Rattle.model.proofs.Laws.Refusals.{none_holds}
 use Rattle.model.specs.Numbers as refused
@@ -26,7 +25,7 @@ use Rattle.layout.specs.Memory.{State, state_of}
 use Rattle.filter_post.specs.Laws.Stored.{post_stored, post_struck, post_reopened}
 use Rattle.filter_retract.specs.Laws.Stored.{retract_stored}
 use Rattle.layout.specs.Sizes.{slots_length}
-use Rattle.model.specs.Refusals.{first_of}
+use Rattle.model.specs.Refusals.{number, first_of}
 
 -- the empty draft is no draft
 empty_drafted : Drafted none empty_draft
@@ -61,8 +60,8 @@ module _ (before : State) (ns : List ℕ) where
   checks = post_checks before.value.heads.counts before.value.heads.arity before.value.draft.number before.value.draft.rule.arity
 
   -- a refusal changes nothing
-  pub post_refused : (n : ℕ) → (n ≡ 0 → ⊥) → n ≡ first_of checks → KindPromise before kind.Post ns (answer.Refused n) before
-  post_refused n ne e = promise_refused before kind.Post ns n ne (λ L shape is. e ∙ post_checks_same L shape before is ns)
+  pub post_refused : (f : Refusal) → number f ≡ first_of checks → KindPromise before kind.Post ns (Err f) before
+  post_refused f e = promise_refused before kind.Post ns f (λ L shape is. e ∙ post_checks_same L shape before is ns)
 
   -- the draft is posted, and the one that is left is none
   module _ (given : Answer) (left : State) (done : Posted before.value.draft before given left) (kept : Draft) (is-empty : kept ≡ empty_draft) where
@@ -117,9 +116,9 @@ module _ (n : ℕ) (before after : State) (given : Answer) (done : Retracted n b
 
 -- KIND 5
 module _ (n : ℕ) (before : State) (ns : List ℕ) where
-  pub retract_refused : (m : ℕ) → (m ≡ 0 → ⊥) → m ≡ first_of (retract_checks before.value.heads.counts before.value.heads.arity n)
-      → KindPromise before (kind.Retract n) ns (answer.Refused m) before
-  retract_refused m ne e = promise_refused before (kind.Retract n) ns m ne (λ L shape is. e ∙ retract_checks_same L shape before is n ns)
+  pub retract_refused : (f : Refusal) → number f ≡ first_of (retract_checks before.value.heads.counts before.value.heads.arity n)
+      → KindPromise before (kind.Retract n) ns (Err f) before
+  retract_refused f e = promise_refused before (kind.Retract n) ns f (λ L shape is. e ∙ retract_checks_same L shape before is n ns)
 
   module _ (given : Answer) (after : State) (done : Retracted n before given after) where
     retract_reports : {B : Board} → RetractStored B n before.value.heads (state_rules after) before.killers after.killers before.slots after.slots done.reopened done.touched

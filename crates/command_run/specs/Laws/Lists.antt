@@ -1,7 +1,6 @@
 -- WHAT THE COMMAND ENTRY PROMISES makes its command one of a list: it is handed what stands, and what it leaves stands after it. Assumes nothing.
 use Rattle.std.specs.Prelude.{List, ℕ}
-use Rattle.model.specs.declared.answer.Answer.{Answer}
-use Rattle.model.specs.Promise.{Promise}
+use Rattle.model.specs.Promise.{Answer, Promise}
 use Rattle.model.specs.Lists.{whole_lending, Entered}
 use Rattle.model.proofs.Laws.Members.{entered_own}
 use Rattle.layout.specs.Memory.{Whole, lent_with}

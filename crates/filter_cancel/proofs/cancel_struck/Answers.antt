@@ -5,4 +5,4 @@ use Rattle.filter_cancel.proofs.cancel_struck.Goals as goal
 
 pub returns : goal.returns
 returns c =
-    reworked {R = rules_in c.args.rows.now c.args.arity.now c.args.scope.now c.args.lengths.now} c.requires.c_bound c.requires.seeding c.relax-relaxed.ensures c.strike_without-again.ensures c.count_others.ensures
+    reworked {R = rules_in c.args.rows.now c.args.heads.now} c.requires.c_bound c.requires.seeding c.relax-relaxed.ensures c.strike_without-again.ensures c.count_others.ensures

@@ -19,14 +19,14 @@ use Rattle.model.proofs.Laws.Touched.{smallest_none}
 use Rattle.model.proofs.Laws.Theory.{on_live, on_count, live_not}
 use Rattle.model.proofs.Laws.Shapes.{shape_cancelled}
 use Rattle.model.proofs.Laws.Change.{on_range, byte_on, off_limits, on_weaker, cancelled_itself, cancel_live, cancel_weaker, cancel_seeds}
-use Rattle.filter_propagate.specs.Rules.{RuleBytes, reached}
+use Rattle.filter_propagate.specs.Rules.{RuleBytes, rules_in, reached}
 use Rattle.filter_support.specs.Strikes.{is_open, is_struck}
 use Rattle.filter_propagate.specs.Stable.{StableBytes}
 use Rattle.filter_propagate.specs.Queue.{IsFlagged}
 use Rattle.filter_propagate.specs.Laws.Kept.{steps_slots, propagated_lost}
 use Rattle.filter_relax.specs.Relaxed.{Relaxed}
 use Rattle.filter_relax.proofs.Laws.Relaxed.{stays_stable}
-use Rattle.filter_meaning.specs.Rules.{RulesOf, bytes_in}
+use Rattle.filter_meaning.specs.Rules.{RulesOf}
 use Rattle.filter_meaning.specs.Working.{Working}
 use Rattle.filter_meaning.specs.Relaxing.{visited_test}
 use Rattle.filter_meaning.specs.Counts.{Neither, Reopening}
@@ -78,10 +78,10 @@ module _ (B : Board) (shape : Shape B) (c : ℕ) (there : c < length B.counts) (
   few : n ≤ 32
   few = omega (arith, (shape.counts c there).1)
 
-  known : RulesOf B (bytes_in heads rows)
+  known : RulesOf B (rules_in rows heads)
   known = stored_rules B heads rows stored.headed stored.row_bytes_lem
 
-  known' : RulesOf (cancel_call B c) (bytes_in heads rows)
+  known' : RulesOf (cancel_call B c) (rules_in rows heads)
   known' = record { arity = known.arity; scope = known.scope; lengths = known.lengths; bytes = known.bytes }
 
   headed' : Headed (cancel_call B c) heads
@@ -107,7 +107,7 @@ module _ (B : Board) (shape : Shape B) (c : ℕ) (there : c < length B.counts) (
   seeds : Seeds B (cancel_call B c) (cause_of slots) (OwnSlot c)
   seeds = cancel_seeds B c (cause_of slots)
 
-  stable : (q : ℕ) → q < 64 → StableBytes (bytes_in heads rows) killers slots q
+  stable : (q : ℕ) → q < 64 → StableBytes (rules_in rows heads) killers slots q
   stable q lq = (at_rest B shape heads rows killers slots stored (replicate 64 false)).calm q lq (get_or-replicate 64 q false false lq)
 
   -- a struck slot of the call is in the seed
@@ -158,8 +158,8 @@ module _ (B : Board) (shape : Shape B) (c : ℕ) (there : c < length B.counts) (
       (size : length opened ≡ slots_length) (revived-size : length revived ≡ length killers)
       (opened_off : (d s : ℕ) → d < 32 → s < 32 → (OnBoard B d s → ⊥) → cause_of opened d s ≡ off_byte B d s)
       (spare : (q v : ℕ) → q < 64 → v < 64 → length (rule_at B q).rows ≤ v → killer_of revived q v ≡ 255)
-      (still : (q : ℕ) → q < 64 → get_or pending q false ≡ false → StableBytes (bytes_in heads rows) revived opened q) where
-    working : Working (cancel_call B c) (bytes_in heads rows) (reached revived left pending)
+      (still : (q : ℕ) → q < 64 → get_or pending q false ≡ false → StableBytes (rules_in rows heads) revived opened q) where
+    working : Working (cancel_call B c) (rules_in rows heads) (reached revived left pending)
     working =
         record {
           sizes = record { rows_size = stored.row_bytes_lem.rows_size; killers_size = revived-size ∙ stored.killers_size; slots_size = w.len ∙ size };
@@ -167,7 +167,7 @@ module _ (B : Board) (shape : Shape B) (c : ℕ) (there : c < length B.counts) (
           sound = sound;
           off = left_off opened left w opened_off;
           spare = spare;
-          calm = λ q lq e. stable_withdrawn (bytes_in heads rows) revived opened left q (withdrawn_each c n few w) (still q lq e);
+          calm = λ q lq e. stable_withdrawn (rules_in rows heads) revived opened left q (withdrawn_each c n few w) (still q lq e);
         }
 
   -- WHERE NO SLOT OF THE CALL IS STRUCK, nothing reopens
@@ -207,38 +207,38 @@ module _ (B : Board) (shape : Shape B) (c : ℕ) (there : c < length B.counts) (
           (λ p lp. get_or-replicate 64 p false false lp))
 
   -- WHERE ONE IS, the touched slots of the other calls reopen, less those that are struck again
-  reworked_stored : {killers' slots' : List ℕ} {reopened touched : ℕ} → CancelReworked c n (bytes_in heads rows) killers killers' slots slots' reopened touched
+  reworked_stored : {killers' slots' : List ℕ} {reopened touched : ℕ} → CancelReworked c n (rules_in rows heads) killers killers' slots slots' reopened touched
       → CancelStored B c heads rows killers killers' slots slots' reopened touched
   reworked_stored {killers'} {slots'} {reopened} {touched} d =
       record {
         stored = after;
         none_struck = none_struck_between B (cancel_call B c) weaker stored after;
-        reopened_is = reopened_count slots d.left slots' d.others d.again touched stored.slots_size reopening (propagated_lost (bytes_in heads rows) d.propagated) d.total
+        reopened_is = reopened_count slots d.left slots' d.others d.again touched stored.slots_size reopening (propagated_lost (rules_in rows heads) d.propagated) d.total
             ∙ sym d.difference;
         touched_is = record {
           set = visited_test d.visited;
-          smallest = visited_smallest B shape (bytes_in heads rows) known killers slots stored.recorded (OwnStruck slots c) (OwnSlot c) struck seeded x stored.off begins;
+          smallest = visited_smallest B shape (rules_in rows heads) known killers slots stored.recorded (OwnStruck slots c) (OwnSlot c) struck seeded x stored.off begins;
           size = d.total ∙ visited_count d.others (d.beside.size ∙ x.visited_size)
               ∙ slots_same (visited_test d.others) (λ e s. not (eqb e c) && visited_test d.visited e s) (λ e s le ls. counted e s ls);
         };
       }
     where
-      x : Relaxed (bytes_in heads rows) (OwnStruck slots c) d.all killers d.revived slots d.opened d.visited d.pending
+      x : Relaxed (rules_in rows heads) (OwnStruck slots c) d.all killers d.revived slots d.opened d.visited d.pending
       x = d.relaxed
 
       was : (j : ℕ) → IsFlagged d.visited j → get_or slots j 0 < 64
-      was = visited_were_struck B shape (bytes_in heads rows) known killers slots stored.recorded (OwnStruck slots c) (OwnSlot c) struck seeded x
+      was = visited_were_struck B shape (rules_in rows heads) known killers slots stored.recorded (OwnStruck slots c) (OwnSlot c) struck seeded x
 
       opened_off : (e s : ℕ) → e < 32 → s < 32 → (OnBoard B e s → ⊥) → cause_of d.opened e s ≡ off_byte B e s
-      opened_off = relaxed_off B shape (bytes_in heads rows) known killers slots stored.recorded (OwnStruck slots c) (OwnSlot c) struck seeded x stored.off
+      opened_off = relaxed_off B shape (rules_in rows heads) known killers slots stored.recorded (OwnStruck slots c) (OwnSlot c) struck seeded x stored.off
 
       sound : Sound (cancel_call B c) (cause_of d.left) (killer_of d.revived)
       sound =
-          relaxed_sound B shape (bytes_in heads rows) known killers slots stored.recorded (OwnStruck slots c) (OwnSlot c) struck seeded x
+          relaxed_sound B shape (rules_in rows heads) known killers slots stored.recorded (OwnStruck slots c) (OwnSlot c) struck seeded x
           (cancel_call B c) weaker d.left d.revived (left_on d.opened d.left d.withdrawn opened_off) (λ q v r f lv. refl) seeds
 
       spare : (q v : ℕ) → q < 64 → v < 64 → length (rule_at B q).rows ≤ v → killer_of d.revived q v ≡ 255
-      spare = relaxed_spare B shape (bytes_in heads rows) known killers slots stored.recorded (OwnStruck slots c) (OwnSlot c) struck seeded x stored.spare
+      spare = relaxed_spare B shape (rules_in rows heads) known killers slots stored.recorded (OwnStruck slots c) (OwnSlot c) struck seeded x stored.spare
 
       after : Stored (cancel_call B c) heads rows killers' slots'
       after =
@@ -288,12 +288,12 @@ module _ (B : Board) (shape : Shape B) (c : ℕ) (there : c < length B.counts) (
             was_struck = λ j f. was j (d.beside.only j f).0;
             are_open = λ j f. let o = d.beside.only j f in withdrawn_other c n few d.withdrawn j o.1 ∙ x.slot_opened j o.0;
             kept = kept;
-            again = steps_slots (bytes_in heads rows) d.propagated.steps;
+            again = steps_slots (rules_in rows heads) d.propagated.steps;
             none_struck = open_not_struck_after B (cancel_call B c) weaker stored after;
           }
 
   -- A CANCELLATION, either way
-  pub cancel_stored : {killers' slots' : List ℕ} {reopened touched : ℕ} → CancelDone c n (bytes_in heads rows) killers killers' slots slots' reopened touched
+  pub cancel_stored : {killers' slots' : List ℕ} {reopened touched : ℕ} → CancelDone c n (rules_in rows heads) killers killers' slots slots' reopened touched
       → CancelStored B c heads rows killers killers' slots slots' reopened touched
   cancel_stored (inl q) = quiet_stored q
   cancel_stored (inr d) = reworked_stored d

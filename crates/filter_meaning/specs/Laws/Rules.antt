@@ -8,12 +8,12 @@ use Rattle.layout.specs.declared.value.Heads.{Heads}
 use Rattle.model.specs.Board.{Rule, Board, call_at, slot_at, InForce, GoodRule, Shape}
 use Rattle.model.specs.Representation.{rule_or, rule_at, Headed, RowBytes}
 use Rattle.model.proofs.Laws.Change.{number_below}
-use Rattle.filter_propagate.specs.Rules.{RuleBytes, Distinct}
+use Rattle.filter_propagate.specs.Rules.{RuleBytes, rules_in, Distinct}
 use Rattle.layout.specs.Places.{columns_of, call_of, slot_of, row_cell}
 use Rattle.tables.specs.Laws.Facts.{lt_or_le}
-use Rattle.filter_meaning.specs.Rules.{RulesOf, bytes_in, ReadAs}
+use Rattle.filter_meaning.specs.Rules.{RulesOf, ReadAs}
 
-pub stored_rules : (B : Board) (h : Heads) (rows : List ℕ) → Headed B h → RowBytes B rows → RulesOf B (bytes_in h rows)
+pub stored_rules : (B : Board) (h : Heads) (rows : List ℕ) → Headed B h → RowBytes B rows → RulesOf B (rules_in rows h)
 stored_rules B h rows hd rb = record { arity = hd.arity; scope = hd.scope; lengths = hd.lengths; bytes = rb.bytes }
 
 one_column_of : {counts : List ℕ} {r : Rule} → GoodRule counts r → (j k : ℕ) → j < length r.scope → k < length r.scope → call_at r j ≡ call_at r k → j ≡ k

@@ -8,11 +8,11 @@ use Rattle.model.specs.Records.{Open, Sound, Recorded}
 use Rattle.model.specs.Representation.{Headed, off_byte, Stored}
 use Rattle.model.proofs.Laws.Theory.{on_live, active_below, below_active, open_viable}
 use Rattle.model.proofs.Laws.Change.{stable_recorded, on_range, byte_on, row_on_board, recorded_stable}
-use Rattle.filter_propagate.specs.Rules.{RuleBytes, Progress, reached}
+use Rattle.filter_propagate.specs.Rules.{RuleBytes, rules_in, Progress, reached}
 use Rattle.filter_propagate.specs.Queue.{Idle}
 use Rattle.filter_propagate.specs.Stable.{StableBytes}
 use Rattle.filter_propagate.specs.Steps.{Propagated}
-use Rattle.filter_meaning.specs.Rules.{RulesOf, ReadAs, bytes_in}
+use Rattle.filter_meaning.specs.Rules.{RulesOf, ReadAs}
 use Rattle.filter_meaning.specs.Working.{Working}
 use Rattle.layout.specs.Places.{columns_of, call_of, cause_of, killer_of}
 use Rattle.filter_meaning.specs.Laws.Rules.{stored_rules, in_force_lem, read_as}
@@ -73,7 +73,7 @@ module _ (B : Board) (shape : Shape B) (R : RuleBytes) (p : ℕ) (r : Rule) (f :
       slot k lk s w h = rw (b.one_column h.column k (active_below B r h.column h.active) lk h.call) at h.slot
 
 -- NOTHING PENDING: the board is stored
-pub settled : (B : Board) → Shape B → (heads : Heads) (rows : List ℕ) (z : Progress) → Headed B heads → Working B (bytes_in heads rows) z → Idle z.pending
+pub settled : (B : Board) → Shape B → (heads : Heads) (rows : List ℕ) (z : Progress) → Headed B heads → Working B (rules_in rows heads) z → Idle z.pending
     → Stored B heads rows z.killers z.slots
 settled B shape heads rows z headed work idle =
     record {
@@ -93,12 +93,12 @@ settled B shape heads rows z headed work idle =
     known =
         stable_recorded B (cause_of z.slots) (killer_of z.killers) work.sound
         (λ p r f.
-        let b = read_as B shape (bytes_in heads rows) work.rules p r f in
-        stable_of_bytes B shape (bytes_in heads rows) p r f b z.killers z.slots work.sound (work.calm p b.number (idle p b.number)))
+        let b = read_as B shape (rules_in rows heads) work.rules p r f in
+        stable_of_bytes B shape (rules_in rows heads) p r f b z.killers z.slots work.sound (work.calm p b.number (idle p b.number)))
 
 -- AND THE WAY BACK: on a stored board every rule is stable, whatever is flagged
 pub at_rest : (B : Board) → Shape B → (heads : Heads) (rows killers slots : List ℕ) → Stored B heads rows killers slots → (pending : List Bool)
-    → Working B (bytes_in heads rows) (reached killers slots pending)
+    → Working B (rules_in rows heads) (reached killers slots pending)
 at_rest B shape heads rows killers slots stored pending =
     record {
       sizes = record { rows_size = stored.row_bytes_lem.rows_size; killers_size = stored.killers_size; slots_size = stored.slots_size };
@@ -113,16 +113,16 @@ at_rest B shape heads rows killers slots stored pending =
           };
     }
   where
-    known : RulesOf B (bytes_in heads rows)
+    known : RulesOf B (rules_in rows heads)
     known = stored_rules B heads rows stored.headed stored.row_bytes_lem
 
-    stable : (q k : ℕ) → q < 64 → k < columns_of heads.arity q → StableBytes (bytes_in heads rows) killers slots q
+    stable : (q k : ℕ) → q < 64 → k < columns_of heads.arity q → StableBytes (rules_in rows heads) killers slots q
     stable q k lq lk =
-        let x = in_force_lem B shape (bytes_in heads rows) known q k lq lk in
-        bytes_of_stable B shape (bytes_in heads rows) q x.0 x.1 (read_as B shape (bytes_in heads rows) known q x.0 x.1) killers slots stored.off
+        let x = in_force_lem B shape (rules_in rows heads) known q k lq lk in
+        bytes_of_stable B shape (rules_in rows heads) q x.0 x.1 (read_as B shape (rules_in rows heads) known q x.0 x.1) killers slots stored.off
         (recorded_stable B (cause_of slots) (killer_of killers) stored.recorded q x.0 x.1)
 
 -- PROPAGATION, from a board at work to one that is stored
-pub propagated_stored : (B : Board) → Shape B → (heads : Heads) (rows : List ℕ) {r : ℕ} (x z : Progress) → Headed B heads → Working B (bytes_in heads rows) x
-    → Propagated (bytes_in heads rows) r x z → Stored B heads rows z.killers z.slots
-propagated_stored B shape heads rows x z headed work done = settled B shape heads rows z headed (steps_working B shape (bytes_in heads rows) work done.steps) done.idle
+pub propagated_stored : (B : Board) → Shape B → (heads : Heads) (rows : List ℕ) {r : ℕ} (x z : Progress) → Headed B heads → Working B (rules_in rows heads) x
+    → Propagated (rules_in rows heads) r x z → Stored B heads rows z.killers z.slots
+propagated_stored B shape heads rows x z headed work done = settled B shape heads rows z headed (steps_working B shape (rules_in rows heads) work done.steps) done.idle

@@ -7,9 +7,9 @@ use Rattle.layout.specs.declared.value.RuleData.{RuleData}
 use Rattle.model.specs.Board.{Rule, Board, call_at, slot_at, Shape}
 use Rattle.model.specs.Ledger.{with_rule}
 use Rattle.model.specs.Representation.{rule_or, rule_at, RuleHeld, Headed}
-use Rattle.filter_propagate.specs.Rules.{RuleBytes}
+use Rattle.filter_propagate.specs.Rules.{RuleBytes, rules_in}
 use Rattle.filter_propagate.specs.Stable.{StableBytes}
-use Rattle.filter_meaning.specs.Rules.{RulesOf, bytes_in}
+use Rattle.filter_meaning.specs.Rules.{RulesOf}
 use Rattle.filter_post.specs.Write.{SameRule, RuleWritten}
 use Rattle.layout.specs.Places.{columns_of, rows_of, row_cell}
 use Rattle.tables.specs.Laws.Facts.{eq_or_ne}
@@ -42,7 +42,7 @@ module _ (B : Board) (shape : Shape B) (p : ℕ) (lp : p < 64) (o : Option Rule)
 
 -- the heads of such a board
 pub written_headed : {p : ℕ} {rule : RuleData} {R' : RuleBytes} (B : Board) (o : Option Rule) (h : Heads) (rows : List ℕ) → Headed B h
-    → RuleWritten p rule (bytes_in h rows) R' → RulesOf (with_rule B p o) R' → Headed (with_rule B p o) (with_rule_heads h R')
+    → RuleWritten p rule (rules_in rows h) R' → RulesOf (with_rule B p o) R' → Headed (with_rule B p o) (with_rule_heads h R')
 written_headed B o h rows headed w known =
     record {
       counts_size = headed.counts_size;

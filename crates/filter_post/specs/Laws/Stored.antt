@@ -14,8 +14,7 @@ use Rattle.model.proofs.Laws.Tests.{none_some}
 use Rattle.model.proofs.Laws.Theory.{active_same}
 use Rattle.model.proofs.Laws.Change.{keep_grounded}
 use Rattle.model.proofs.Laws.Shapes.{shape_with}
-use Rattle.filter_propagate.specs.Rules.{RuleBytes, reached}
-use Rattle.filter_meaning.specs.Rules.{bytes_in}
+use Rattle.filter_propagate.specs.Rules.{RuleBytes, rules_in, reached}
 use Rattle.filter_meaning.specs.Working.{Working}
 use Rattle.filter_post.specs.Write.{RuleWritten}
 use Rattle.filter_post.specs.Rules.{with_rule_heads}
@@ -76,12 +75,12 @@ module _ (B : Board) (shape : Shape B) (p : ℕ) (lp : p < 64) (free : get_or B.
   module _ {rule : RuleData} (held : RuleHeld r rule) (heads : Heads) (rows killers slots : List ℕ)
       (stored : Stored B heads rows killers slots) (R' : RuleBytes) where
     -- the board is at work, with only the new rule pending
-    post_working : RuleWritten p rule (bytes_in heads rows) R' → Working (with_rule B p (some r)) R' (reached killers slots (only_rule p))
+    post_working : RuleWritten p rule (rules_in rows heads) R' → Working (with_rule B p (some r)) R' (reached killers slots (only_rule p))
     post_working w =
         let before = at_rest B shape heads rows killers slots stored (only_rule p) in
         record {
           sizes = written_sizes w before.sizes;
-          rules = written_rules B shape p lp (some r) (bytes_in heads rows) R' held w before.rules;
+          rules = written_rules B shape p lp (some r) (rules_in rows heads) R' held w before.rules;
           sound = post_sound (cause_of slots) (killer_of killers)
               (λ v lv. stored.spare p v lp (omega (arith, good.few)) (omega (arith, no_rows))) before.sound;
           off = stored.off;
@@ -97,7 +96,7 @@ module _ (B : Board) (shape : Shape B) (p : ℕ) (lp : p < 64) (free : get_or B.
         flagged e = true_false (get_or-set_same (replicate 64 false) p true false (omega (arith, length-replicate 64 false))) e
 
     -- THE LAW OF A POST
-    pub post_stored : {s : ℕ} {killers' slots' : List ℕ} → PostDone p s rule (bytes_in heads rows) R' killers killers' slots slots'
+    pub post_stored : {s : ℕ} {killers' slots' : List ℕ} → PostDone p s rule (rules_in rows heads) R' killers killers' slots slots'
         → Stored (with_rule B p (some r)) (with_rule_heads heads R') R'.rows killers' slots'
     post_stored done =
         let work = post_working done.written in

@@ -1,30 +1,11 @@
--- A loop over the entries of a table, said once for every width; two stores and two such loops write a rule. Assumes nothing.
+-- Two stores and two copies write a rule. Assumes nothing.
 use Rattle.std.specs.Prelude.{◌≡◌, List, ◌≢◌, ℕ, suc, ◌+◌, ◌*◌, ◌≤◌, ◌<◌, length, get_or, set}
 use Rattle.std.proofs.Common.{⊎_elim, mul-suc, mul-le-mul_left, arith, length-set, get_or-set_same, get_or-set_other}
 use Rattle.layout.specs.declared.value.RuleData.{RuleData}
 use Rattle.tables.specs.Sweep.{Swept}
 use Rattle.filter_propagate.specs.Rules.{bytes_of}
 use Rattle.tables.specs.Laws.Facts.{lt_or_le}
-use Rattle.tables.specs.Laws.Sweep.{one_set, swept_none, swept_more, swept_at}
-use Rattle.filter_post.specs.Write.{Copied, Writable, RuleWritten}
-
--- A LOOP OVER `width` ENTRIES of a table, from base on, after i rounds: each entry passed went by S, and no other changed
-pub record Sweeping (S : ℕ → ℕ → ℕ → Type 0) (base width i : ℕ) (old new : List ℕ) : Type 0 where
-  pub most : i ≤ width
-  pub swept : Swept 0 S base i old new
-
-module _ {S : ℕ → ℕ → ℕ → Type 0} {base width : ℕ} where
-  pub sweep_begins : (l : List ℕ) → Sweeping S base width 0 l l
-  sweep_begins l = record { most = omega arith; swept = swept_none 0 S base l }
-
-  -- a round that stores v
-  pub sweep_stores : {i v : ℕ} {old new : List ℕ} → Sweeping S base width i old new → i < width → base + i < length new → S i (get_or new (base + i) 0) v
-      → Sweeping S base width (i + 1) old (set new (base + i) v)
-  sweep_stores {i} {v} {old} {new} s more inside stored =
-      record { most = omega arith; swept = swept_more 0 S base i old new (set new (base + i) v) s.swept (one_set 0 S base i new v inside stored) }
-
-  pub sweep_ends : {i : ℕ} {old new : List ℕ} → Sweeping S base width i old new → width ≤ i → Swept 0 S base width old new
-  sweep_ends s last = swept_at 0 S base s.swept s.most last
+use Rattle.filter_post.specs.Write.{Copied, RuleWritten}
 
 -- where part p of a table is swept, of parts of n entries each, the other parts are as they were
 pub swept_apart : {A : Type 0} {d : A} {S : ℕ → A → A → Type 0} (n p q i : ℕ) {old new : List A} → Swept d S (n * p) n old new → q ≢ p → i < n
@@ -36,10 +17,10 @@ swept_apart n p q i sw ne li =
     (lt_or_le q p)
 
 -- two stores and two copies write a rule
-pub written_by : {p : ℕ} {rule : RuleData} {rows arity scope lengths rows' scope' : List ℕ} → Writable p (bytes_of rows arity scope lengths)
+pub written_by : {p : ℕ} {rule : RuleData} {rows arity scope lengths rows' scope' : List ℕ} → length arity ≡ 64 → length lengths ≡ 64 → p < 64
     → Swept 0 (Copied rule.scope) (4 * p) 4 scope scope' → Swept 0 (Copied rule.rows) (256 * p) 256 rows rows'
     → RuleWritten p rule (bytes_of rows arity scope lengths) (bytes_of rows' (set arity p rule.arity) scope' (set lengths p rule.length))
-written_by {p} {rule} {rows} {arity} {scope} {lengths} {rows'} able heads bytes =
+written_by {p} {rule} {rows} {arity} {scope} {lengths} {rows'} la ll lp heads bytes =
     record {
       arity = get_or-set_same arity p rule.arity 0 (omega arith);
       lengths = get_or-set_same lengths p rule.length 0 (omega arith);

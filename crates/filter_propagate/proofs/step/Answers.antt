@@ -1,5 +1,5 @@
 -- The revision says on which calls a slot was struck, and the rules on those calls are enqueued. What it knows is known.
-use mathlib.Core.Path.{refl}
+use Rattle.std.proofs.Common.{refl}
 use Rattle.tables.specs.Laws.Flags.{flag_set}
 use Rattle.filter_propagate.specs.Laws.Step.{step_enqueued}
 use Rattle.filter_propagate.proofs.step.Goals as goal

@@ -1,8 +1,6 @@
 -- A step keeps every rule stable that is not pending, so after propagation every rule is. Assumes nothing.
 use Rattle.std.specs.Prelude.{◌≡◌, refl, List, ◌⊎◌, false, ℕ, ◌+◌, ◌*◌, ◌≤◌, ◌<◌, get_or}
-use Rattle.std.proofs.Common.{sym, ◌∙◌, inl, inr, get_or-set_other}
-use Rattle.std.proofs.Math.Logic.{⊎_elim}
-use native.Mathlib.Omega.{arith}
+use Rattle.std.proofs.Common.{sym, ◌∙◌, inl, inr, get_or-set_other, ⊎_elim, arith}
 use Rattle.filter_propagate.specs.Rules.{RuleBytes, Progress, Distinct}
 use Rattle.filter_support.specs.Rows.{Support}
 use Rattle.filter_propagate.specs.Step.{Revised, Stepped}

@@ -7,7 +7,7 @@ use Rattle.tables.specs.Count.{bit, count}
 use Rattle.tables.specs.Masks.{flags_of}
 use Rattle.layout.specs.Places.{call_of, columns_of, rows_of}
 use Rattle.masks.specs.declared.columns.Columns.{Columns}
-use Rattle.masks.specs.Rules.{RulesOn, Enqueues}
+use Rattle.masks.specs.Rules.{RulesTo, Enqueues}
 use Rattle.filter_propagate.specs.Rules.{RuleBytes, Progress, reached}
 use Rattle.filter_support.specs.Walk.{StruckSets, WalkedColumns}
 use Rattle.filter_support.specs.Strikes.{NotIn, StruckOn, ColumnsStruck}
@@ -49,7 +49,7 @@ none_enqueued arity scope slots p j (q, lq, (e, ne, (k, lk, (s, ls, o, n)))) = n
 -- a revision is a step: with the rules on the calls where a slot was struck enqueued, or where none was struck
 module _ (R : RuleBytes) (p : ℕ) {r calls : ℕ} (x : Progress) (killed struck : List ℕ) (lp : p < 64) (was : IsFlagged x.pending p)
     (v : Revision R p r calls x.killers killed x.slots struck) where
-  pub step_enqueued : {pending after : ℕ} {on : List ℕ} → set x.pending p false ≡ set (flags_of 64 pending) p false → RulesOn R.arity R.scope on
+  pub step_enqueued : {pending after : ℕ} {on : List ℕ} → set x.pending p false ≡ set (flags_of 64 pending) p false → RulesTo R.arity R.scope 64 on
       → Enqueues on calls p pending after → Stepped R p r x (reached killed struck (flags_of 64 after))
   step_enqueued same known q =
       record {
@@ -79,7 +79,7 @@ module _ (R : RuleBytes) (p : ℕ) {r calls : ℕ} (killers killed slots struck 
   flagged : IsFlagged (only_rule p) p
   flagged = get_or-set_same (replicate 64 false) p true false (omega (arith, length-replicate 64 false))
 
-  pub first_enqueued : {after : ℕ} {on : List ℕ} → RulesOn R.arity R.scope on → Enqueues on calls p 0 after
+  pub first_enqueued : {after : ℕ} {on : List ℕ} → RulesTo R.arity R.scope 64 on → Enqueues on calls p 0 after
       → Stepped R p r (reached killers slots (only_rule p)) (reached killed struck (flags_of 64 after))
   first_enqueued known q = step_enqueued R p (reached killers slots (only_rule p)) killed struck lp flagged v (only_cleared 64 p) known q
 

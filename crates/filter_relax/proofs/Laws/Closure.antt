@@ -8,10 +8,10 @@ use Rattle.tables.specs.Masks.{Has, flags_of, all_flags}
 use Rattle.tables.specs.Laws.Assign.{assign_stays}
 use Rattle.tables.specs.Laws.Count.{count_le, count_set}
 use Rattle.tables.specs.Laws.Facts.{true_false, true_or_false, eq_or_ne, lt_or_le}
-use Rattle.tables.specs.Laws.Flags.{flags_length, flag_set, flag_clear, flag_has, all_length}
+use Rattle.tables.specs.Laws.Flags.{flags_length, flag_set, flag_clear, flag_has}
 use Rattle.tables.specs.Laws.Lost.{lost_count, only_same}
 use Rattle.tables.specs.Laws.Masks.{bit_zero, or_left, or_right, or_either}
-use Rattle.masks.specs.Rules.{OnCalls, RulesOn, RulesOnAny, Enqueues}
+use Rattle.masks.specs.Rules.{OnCalls, RulesTo, RulesOnAny, Enqueues}
 use Rattle.masks.specs.Laws.Rules.{enqueued, enqueued_first}
 use Rattle.filter_propagate.specs.Rules.{RuleBytes}
 use Rattle.filter_propagate.specs.Queue.{IsFlagged, Idle}
@@ -45,7 +45,7 @@ was_or_new {old} {new} size x j o =
     (true_or_false (get_or old j false))
 
 -- ONE STEP: what the scan of rule q and the rules that it makes pending leave
-module _ (R : RuleBytes) (killers slots : List ℕ) (q : ℕ) (visited after : List ℕ) (calls : ℕ) {on : List ℕ} {changed pending rules : ℕ} (table : RulesOn R.arity R.scope on) (lq : q < 64)
+module _ (R : RuleBytes) (killers slots : List ℕ) (q : ℕ) (visited after : List ℕ) (calls : ℕ) {on : List ℕ} {changed pending rules : ℕ} (table : RulesTo R.arity R.scope 64 on) (lq : q < 64)
     (was : Has pending q) (size : length visited ≡ 32) (s : Scans (RuleJustifies R killers slots q) (all_flags 32 visited) (all_flags 32 after) changed)
     (e : Enqueues on changed q pending rules) where
   abbrev x : Traversal
@@ -161,7 +161,7 @@ module _ (R : RuleBytes) (killers slots : List ℕ) where
     pub calls : CallsVisited y.flags y.visited
 
   -- at first every rule on a call of a visited slot is pending
-  pub closing_none : (visited : List ℕ) (calls : ℕ) {on : List ℕ} {rules : ℕ} → RulesOn R.arity R.scope on → length visited ≡ 32 → CallsVisited (flags_of 32 calls) (all_flags 32 visited) → RulesOnAny on calls rules
+  pub closing_none : (visited : List ℕ) (calls : ℕ) {on : List ℕ} {rules : ℕ} → RulesTo R.arity R.scope 64 on → length visited ≡ 32 → CallsVisited (flags_of 32 calls) (all_flags 32 visited) → RulesOnAny on calls rules
       → Closing (all_flags 32 visited) (traversal (all_flags 32 visited) (flags_of 32 calls) (flags_of 64 rules))
   closing_none visited calls {rules = rules} table size w e =
       record {
@@ -185,11 +185,6 @@ module _ (R : RuleBytes) (killers slots : List ℕ) where
         settled = λ no_own. settled_step q v no_own (a.settled no_own);
         calls = v.calls a.calls;
       }
-
--- the table of masks keeps its length
-pub closing_size : {R : RuleBytes} {killers slots : List ℕ} {old : List Bool} (visited : List ℕ) {flags pending : List Bool} → Closing R killers slots old (traversal (all_flags 32 visited) flags pending)
-    → length visited ≡ 32
-closing_size visited a = omega (arith, a.sizes.visited.visited_size, all_length 32 visited)
 
 -- where none is pending all is settled
 pub closed : (R : RuleBytes) (killers slots : List ℕ) {old visited flags : List Bool} {pending : ℕ} → pending ≡ 0 → Closing R killers slots old (traversal visited flags (flags_of 64 pending))

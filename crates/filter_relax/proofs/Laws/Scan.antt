@@ -1,10 +1,6 @@
 -- The walk over a rule's rows by masks: a row's killer, and what is found with its slots, row by row; then which of these slots are new. Assumes nothing.
-use Rattle.std.specs.Prelude.{◌≡◌, List, ◌⊎◌, Bool, cond, ℕ, zero, suc, ◌+◌, ◌^◌, ◌≤◌, ◌<◌, eqb, length, get_or}
-use Rattle.std.proofs.Math.Path.{refl}
-use Rattle.std.proofs.Common.{sym, ◌∙◌, eq-or-lt_of_le, eq-eqb, ne_eqb, eqb-true}
-use Rattle.std.proofs.Math.Logic.{inl, inr, ⊎_elim}
-use Rattle.std.proofs.Math.Bool.{true, false}
-use native.Mathlib.Omega.{arith}
+use Rattle.std.specs.Prelude.{◌≡◌, refl, List, ◌⊎◌, Bool, true, false, cond, ℕ, zero, suc, ◌+◌, ◌^◌, ◌≤◌, ◌<◌, eqb, length, get_or}
+use Rattle.std.proofs.Common.{sym, ◌∙◌, inl, inr, ⊎_elim, eq-or-lt_of_le, arith, eq-eqb, ne_eqb, eqb-true}
 use Rattle.std.specs.Int.Bits.{bit_and, bit_or, or_zero_r, or_add_and}
 use Rattle.std.proofs.lemmas.Nat.{and_le_l, and_le_r}
 use Rattle.tables.specs.Assign.{Any, Below}
@@ -28,9 +24,9 @@ use Rattle.tables.specs.Laws.Masks.{
   and_both,
 }
 use Rattle.masks.specs.declared.columns.Columns.{Columns}
-use Rattle.masks.specs.Columns.{column_of, InColumn, no_columns, first_two, first_three, PastEmpty, RowMasks, ColumnSets}
+use Rattle.masks.specs.Columns.{column_of, InColumn, no_columns, first_columns, PastEmpty, RowMasks, ColumnSets}
 use Rattle.masks.specs.Slots.{SetDifference}
-use Rattle.masks.specs.Laws.Columns.{two, three, four, none_in}
+use Rattle.masks.specs.Laws.Columns.{four, none_in, first_in}
 use Rattle.filter_propagate.specs.Rules.{RuleBytes}
 use Rattle.filter_propagate.specs.Queue.{IsFlagged}
 use Rattle.layout.specs.Places.{columns_of, rows_of, call_of, slot_of, killer_of, cause_of, row_cell, slot_place}
@@ -173,23 +169,13 @@ module _ (rows killers : List ℕ) (sets : Columns) (q : ℕ) where
           (λ t. record { row = w; inside = omega arith; hit = t.0; holds = t.1 })
           (b.only k s l i)
 
-  pub scanned_at : {w m : ℕ} {x : Columns} → Scanned rows killers sets q w x → w ≤ m → m ≤ w → Scanned rows killers sets q m x
-  scanned_at {w} {m} a l g = let e : m ≡ w = omega arith in rw e a
-
 -- A RULE OF FEWER COLUMNS: what is found in the others is thrown away
 module _ {rows killers : List ℕ} {sets : Columns} {q m : ℕ} {x : Columns} where
-  pub scanned_two : (n : ℕ) → n < 3 → Scanned rows killers sets q m x → ScannedColumns rows killers sets q n m (first_two x)
-  scanned_two n l v =
+  pub scanned_first : (w : ℕ) → 1 < w → w ≤ 4 → (n : ℕ) → n ≤ w → Scanned rows killers sets q m x → ScannedColumns rows killers sets q n m (first_columns w x)
+  scanned_first w two few n l v =
       record {
-        has = λ k s lk h. two (λ j. InColumn x j s → InColumn (first_two x) j s) (λ i. i) (λ i. i) k (omega arith) (v.has k s (omega arith) h);
-        only = λ k s lk i. v.only k s (omega arith) (two (λ j. InColumn (first_two x) j s → InColumn x j s) (λ i. i) (λ i. i) k (omega arith) i);
-      }
-
-  pub scanned_three : (n : ℕ) → n < 4 → Scanned rows killers sets q m x → ScannedColumns rows killers sets q n m (first_three x)
-  scanned_three n l v =
-      record {
-        has = λ k s lk h. three (λ j. InColumn x j s → InColumn (first_three x) j s) (λ i. i) (λ i. i) (λ i. i) k (omega arith) (v.has k s (omega arith) h);
-        only = λ k s lk i. v.only k s (omega arith) (three (λ j. InColumn (first_three x) j s → InColumn x j s) (λ i. i) (λ i. i) (λ i. i) k (omega arith) i);
+        has = λ k s lk h. rw (first_in w two x k (omega arith) (omega arith)) (v.has k s (omega arith) h);
+        only = λ k s lk i. v.only k s (omega arith) (rw (first_in w two x k (omega arith) (omega arith)) at i);
       }
 
   pub scanned_four : (n : ℕ) → n ≤ 4 → Scanned rows killers sets q m x → ScannedColumns rows killers sets q n m x

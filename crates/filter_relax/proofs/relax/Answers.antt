@@ -5,4 +5,4 @@ use Rattle.filter_relax.proofs.relax.Goals as goal
 
 pub returns : goal.returns
 returns c =
-    relaxed (rules_in c.args.rows.now c.args.arity.now c.args.scope.now c.args.lengths.now) _ _ c.close-seen.ensures c.reopen_calls-touched.ensures c.requires.rules_on c.rules_on-pending.ensures c.revive_rules.ensures
+    relaxed (rules_in c.args.rows.now c.args.heads.now) _ _ c.close-seen.ensures c.reopen_calls-touched.ensures c.requires.rules_on c.rules_on-pending.ensures c.revive_rules.ensures

@@ -2,5 +2,6 @@
 use Rattle.filter_retract.specs.Laws.Done.{reworked}
 use Rattle.filter_retract.proofs.retract_struck.Goals as goal
 
-pub returns : goal.returns
-returns c = reworked c.requires.seeding c.relax-relaxed.ensures c.strike_again-again.ensures c.difference.ensures
+pub returns-clause-reworked : goal.returns-clause-reworked
+returns-clause-reworked c =
+    reworked c.requires.seeding c.relax-relaxed.ensures c.strike_again-again.ensures.struck_again c.saturating_sub.ensures

@@ -2,5 +2,6 @@
 use Rattle.filter_retract.specs.Laws.Done.{struck_again}
 use Rattle.filter_retract.proofs.strike_again.Goals as goal
 
-pub returns : goal.returns
-returns c = struck_again c.clear_rule.ensures c.requires.writable.number c.without-left.ensures c.propagate.ensures
+pub returns-clause-struck_again : goal.returns-clause-struck_again
+returns-clause-struck_again c =
+    struck_again c.clear_rule.ensures.cleared c.requires.p_bound c.without.ensures c.propagate.ensures

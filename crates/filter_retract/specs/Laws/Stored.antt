@@ -19,7 +19,7 @@ use Rattle.model.proofs.Laws.Shapes.{shape_with}
 use Rattle.model.proofs.Laws.Fresh.{empty_held}
 use Rattle.model.proofs.Laws.Touched.{smallest_none}
 use Rattle.model.proofs.Laws.Change.{on_range, byte_on, retracted_from, retract_weaker, retract_seeds}
-use Rattle.filter_propagate.specs.Rules.{RuleBytes, reached}
+use Rattle.filter_propagate.specs.Rules.{RuleBytes, rules_in, reached}
 use Rattle.filter_support.specs.Strikes.{is_open, is_struck}
 use Rattle.filter_propagate.specs.Stable.{StableBytes}
 use Rattle.filter_propagate.specs.Queue.{IsFlagged}
@@ -28,7 +28,7 @@ use Rattle.filter_support.specs.Laws.Strikes.{open_not_struck}
 use Rattle.filter_propagate.specs.Laws.Kept.{steps_slots, propagated_lost}
 use Rattle.filter_relax.specs.Relaxed.{Relaxed}
 use Rattle.filter_relax.proofs.Laws.Relaxed.{stays_stable}
-use Rattle.filter_meaning.specs.Rules.{RulesOf, bytes_in}
+use Rattle.filter_meaning.specs.Rules.{RulesOf}
 use Rattle.filter_meaning.specs.Working.{Working}
 use Rattle.filter_meaning.specs.Relaxing.{visited_test}
 use Rattle.filter_meaning.specs.Counts.{Reopening}
@@ -56,17 +56,17 @@ caused_seeded B shape R known killers slots rec p lp c s h e =
         (o.column, omega (arith, b.columns), (s, (on_range B shape c s h.0).2, record { is = rw here refl; cause = e }))
 
 module _ (B : Board) (shape : Shape B) (p : ℕ) (lp : p < 64) (heads : Heads) (rows killers slots : List ℕ) (stored : Stored B heads rows killers slots) where
-  known : RulesOf B (bytes_in heads rows)
+  known : RulesOf B (rules_in rows heads)
   known = stored_rules B heads rows stored.headed stored.row_bytes_lem
 
   shape' : Shape (with_rule B p none)
   shape' = shape_with B p none shape lp (λ r e. none_some e)
 
   -- the killers of the other rules stay where rule p is cleared
-  others : {R' : RuleBytes} {a b : List ℕ} → RuleCleared p (bytes_in heads rows) R' a b → (q w : ℕ) → q ≢ p → w < 64 → killer_of b q w ≡ killer_of a q w
+  others : {R' : RuleBytes} {a b : List ℕ} → RuleCleared p (rules_in rows heads) R' a b → (q w : ℕ) → q ≢ p → w < 64 → killer_of b q w ≡ killer_of a q w
   others c q w n lw = swept_apart 64 p q w c.killers_empty n lw
 
-  stable : (q : ℕ) → q < 64 → StableBytes (bytes_in heads rows) killers slots q
+  stable : (q : ℕ) → q < 64 → StableBytes (rules_in rows heads) killers slots q
   stable q lq = (at_rest B shape heads rows killers slots stored (replicate 64 false)).calm q lq (get_or-replicate 64 q false false lq)
 
   weaker : Weaker B (with_rule B p none)
@@ -76,16 +76,16 @@ module _ (B : Board) (shape : Shape B) (p : ℕ) (lp : p < 64) (heads : Heads) (
   seeds = retract_seeds B p (cause_of slots)
 
   -- where rule p is cleared the killers of the rules that are left stay
-  left_killers : {R' : RuleBytes} {a b : List ℕ} → RuleCleared p (bytes_in heads rows) R' a b → (q w : ℕ) (r : Rule) → InForce (with_rule B p none) q r → w < 64
+  left_killers : {R' : RuleBytes} {a b : List ℕ} → RuleCleared p (rules_in rows heads) R' a b → (q w : ℕ) (r : Rule) → InForce (with_rule B p none) q r → w < 64
       → killer_of b q w ≡ killer_of a q w
   left_killers c q w r f lw = others c q w (retracted_from B shape p lp q r f).0 lw
 
   -- AT WORK WITHOUT THE RULE: the records are sound without it, the rule was cleared, and the rules that are not pending are stable as they were
-  module _ (R' : RuleBytes) (revived emptied opened : List ℕ) (pending : List Bool) (cleared : RuleCleared p (bytes_in heads rows) R' revived emptied)
+  module _ (R' : RuleBytes) (revived emptied opened : List ℕ) (pending : List Bool) (cleared : RuleCleared p (rules_in rows heads) R' revived emptied)
       (sound : Sound (with_rule B p none) (cause_of opened) (killer_of emptied)) (size : length opened ≡ slots_length) (revived-size : length revived ≡ killers_length)
       (off : (c s : ℕ) → c < 32 → s < 32 → (OnBoard B c s → ⊥) → cause_of opened c s ≡ off_byte B c s)
       (past : (q w : ℕ) → q < 64 → w < 64 → q ≢ p → length (rule_at B q).rows ≤ w → killer_of revived q w ≡ 255)
-      (still : (q : ℕ) → q < 64 → q ≢ p → get_or pending q false ≡ false → StableBytes (bytes_in heads rows) revived opened q) where
+      (still : (q : ℕ) → q < 64 → q ≢ p → get_or pending q false ≡ false → StableBytes (rules_in rows heads) revived opened q) where
     working : Working (with_rule B p none) R' (reached emptied opened pending)
     working =
         record {
@@ -102,7 +102,7 @@ module _ (B : Board) (shape : Shape B) (p : ℕ) (lp : p < 64) (heads : Heads) (
         }
       where
         known' : RulesOf (with_rule B p none) R'
-        known' = written_rules B shape p lp none (bytes_in heads rows) R' empty_held cleared.written known
+        known' = written_rules B shape p lp none (rules_in rows heads) R' empty_held cleared.written known
 
         spare : (q w : ℕ) → q < 64 → w < 64 → q ≢ p → length (rule_at (with_rule B p none) q).rows ≤ w → killer_of emptied q w ≡ 255
         spare q w lq lw n le = others cleared q w n lw ∙ past q w lq lw n (rw (rule_there B shape p lp none q n) at le)
@@ -113,14 +113,14 @@ module _ (B : Board) (shape : Shape B) (p : ℕ) (lp : p < 64) (heads : Heads) (
         calm : (q : ℕ) → q < 64 → q ≢ p → get_or pending q false ≡ false → StableBytes R' emptied opened q
         calm q lq n e =
             written_stable cleared.written emptied opened q n
-            (stable_keep (bytes_in heads rows) q revived emptied opened opened (λ k s lk ls. refl) (λ w lw. others cleared q w n (omega arith)) (still q lq n e))
+            (stable_keep (rules_in rows heads) q revived emptied opened opened (λ k s lk ls. refl) (λ w lw. others cleared q w n (omega arith)) (still q lq n e))
 
     headed' : Headed (with_rule B p none) (with_rule_heads heads R')
     headed' =
         written_headed B none heads rows stored.headed cleared.written working.rules
 
   -- WHERE THE RULE STRUCK NOTHING, nothing reopens
-  quiet_stored : {R' : RuleBytes} {killers' slots' : List ℕ} {reopened touched : ℕ} → Quiet p (bytes_in heads rows) R' killers killers' slots slots' reopened touched
+  quiet_stored : {R' : RuleBytes} {killers' slots' : List ℕ} {reopened touched : ℕ} → Quiet p (rules_in rows heads) R' killers killers' slots slots' reopened touched
       → RetractStored B p heads R' killers killers' slots slots' reopened touched
   quiet_stored {R'} {killers'} {slots'} {reopened} {touched} q =
       record {
@@ -135,7 +135,7 @@ module _ (B : Board) (shape : Shape B) (p : ℕ) (lp : p < 64) (heads : Heads) (
       }
     where
       unseeded : (c s : ℕ) → Struck B (cause_of slots) c s → CauseIs (cause_of slots) p c s → ⊥
-      unseeded c s h e = q.none (32 * c + s) (caused_seeded B shape (bytes_in heads rows) known killers slots stored.recorded p lp c s h e)
+      unseeded c s h e = q.none (32 * c + s) (caused_seeded B shape (rules_in rows heads) known killers slots stored.recorded p lp c s h e)
 
       sound : Sound (with_rule B p none) (cause_of slots) (killer_of killers')
       sound =
@@ -153,7 +153,7 @@ module _ (B : Board) (shape : Shape B) (p : ℕ) (lp : p < 64) (heads : Heads) (
           (λ u lu. get_or-replicate 64 u false false lu))
 
   -- WHERE IT STRUCK SOMETHING, the touched slots reopen, less those that are struck again
-  reworked_stored : {R' : RuleBytes} {killers' slots' : List ℕ} {reopened touched : ℕ} → Reworked p (bytes_in heads rows) R' killers killers' slots slots' reopened touched
+  reworked_stored : {R' : RuleBytes} {killers' slots' : List ℕ} {reopened touched : ℕ} → Reworked p (rules_in rows heads) R' killers killers' slots slots' reopened touched
       → RetractStored B p heads R' killers killers' slots slots' reopened touched
   reworked_stored {R'} {killers'} {slots'} {reopened} {touched} d =
       record {
@@ -163,23 +163,23 @@ module _ (B : Board) (shape : Shape B) (p : ℕ) (lp : p < 64) (heads : Heads) (
             ∙ sym d.difference;
         touched_is = record {
           set = visited_test d.visited;
-          smallest = visited_smallest B shape (bytes_in heads rows) known killers slots stored.recorded (CausedBy p (bytes_in heads rows) slots) (CauseIs (cause_of slots) p) struck seeded x
+          smallest = visited_smallest B shape (rules_in rows heads) known killers slots stored.recorded (CausedBy p (rules_in rows heads) slots) (CauseIs (cause_of slots) p) struck seeded x
               stored.off begins;
           size = x.total ∙ visited_count d.visited x.visited_size;
         };
       }
     where
-      x : Relaxed (bytes_in heads rows) (CausedBy p (bytes_in heads rows) slots) touched killers d.revived slots d.opened d.visited d.pending
+      x : Relaxed (rules_in rows heads) (CausedBy p (rules_in rows heads) slots) touched killers d.revived slots d.opened d.visited d.pending
       x = d.relaxed
 
-      struck : (j : ℕ) → CausedBy p (bytes_in heads rows) slots j → get_or slots j 0 < 64
+      struck : (j : ℕ) → CausedBy p (rules_in rows heads) slots j → get_or slots j 0 < 64
       struck j z = let e = z.2.2.cause in omega arith
 
-      seeded : (c s : ℕ) → Struck B (cause_of slots) c s → CauseIs (cause_of slots) p c s → CausedBy p (bytes_in heads rows) slots (32 * c + s)
-      seeded = caused_seeded B shape (bytes_in heads rows) known killers slots stored.recorded p lp
+      seeded : (c s : ℕ) → Struck B (cause_of slots) c s → CauseIs (cause_of slots) p c s → CausedBy p (rules_in rows heads) slots (32 * c + s)
+      seeded = caused_seeded B shape (rules_in rows heads) known killers slots stored.recorded p lp
 
       -- and what the seed has over the bytes is a struck slot with the cause p
-      begins : (j : ℕ) → CausedBy p (bytes_in heads rows) slots j → Struck B (cause_of slots) (j / 32) (j % 32) × CauseIs (cause_of slots) p (j / 32) (j % 32)
+      begins : (j : ℕ) → CausedBy p (rules_in rows heads) slots j → Struck B (cause_of slots) (j / 32) (j % 32) × CauseIs (cause_of slots) p (j / 32) (j % 32)
       begins j z =
           let at : 32 * (j / 32) + j % 32 ≡ j = omega arith in
           let call : j / 32 < 32 = omega (arith, z.2.1, z.2.2.is) in
@@ -189,24 +189,24 @@ module _ (B : Board) (shape : Shape B) (p : ℕ) (lp : p < 64) (heads : Heads) (
 
       was : (j : ℕ) → IsFlagged d.visited j → get_or slots j 0 < 64
       was =
-          visited_were_struck B shape (bytes_in heads rows) known killers slots stored.recorded (CausedBy p (bytes_in heads rows) slots) (CauseIs (cause_of slots) p) struck seeded x
+          visited_were_struck B shape (rules_in rows heads) known killers slots stored.recorded (CausedBy p (rules_in rows heads) slots) (CauseIs (cause_of slots) p) struck seeded x
 
       sound : Sound (with_rule B p none) (cause_of d.opened) (killer_of d.emptied)
       sound =
-          relaxed_sound B shape (bytes_in heads rows) known killers slots stored.recorded (CausedBy p (bytes_in heads rows) slots) (CauseIs (cause_of slots) p) struck seeded x
+          relaxed_sound B shape (rules_in rows heads) known killers slots stored.recorded (CausedBy p (rules_in rows heads) slots) (CauseIs (cause_of slots) p) struck seeded x
           (with_rule B p none) weaker d.opened d.emptied (λ c s on. refl) (left_killers d.cleared) seeds
 
       off : (c s : ℕ) → c < 32 → s < 32 → (OnBoard B c s → ⊥) → cause_of d.opened c s ≡ off_byte B c s
       off =
-          relaxed_off B shape (bytes_in heads rows) known killers slots stored.recorded (CausedBy p (bytes_in heads rows) slots) (CauseIs (cause_of slots) p) struck seeded x
+          relaxed_off B shape (rules_in rows heads) known killers slots stored.recorded (CausedBy p (rules_in rows heads) slots) (CauseIs (cause_of slots) p) struck seeded x
           stored.off
 
       past : (q w : ℕ) → q < 64 → w < 64 → q ≢ p → length (rule_at B q).rows ≤ w → killer_of d.revived q w ≡ 255
       past q w lq lw n =
-          relaxed_spare B shape (bytes_in heads rows) known killers slots stored.recorded (CausedBy p (bytes_in heads rows) slots) (CauseIs (cause_of slots) p) struck seeded x
+          relaxed_spare B shape (rules_in rows heads) known killers slots stored.recorded (CausedBy p (rules_in rows heads) slots) (CauseIs (cause_of slots) p) struck seeded x
           stored.spare q w lq lw
 
-      still : (q : ℕ) → q < 64 → q ≢ p → get_or (set d.pending p false) q false ≡ false → StableBytes (bytes_in heads rows) d.revived d.opened q
+      still : (q : ℕ) → q < 64 → q ≢ p → get_or (set d.pending p false) q false ≡ false → StableBytes (rules_in rows heads) d.revived d.opened q
       still q lq n e = stays_stable x q lq (sym (get_or-set_other d.pending p q false false n) ∙ e) (stable q lq)
 
       after : Stored (with_rule B p none) (with_rule_heads heads R') R'.rows killers' slots'
@@ -231,7 +231,7 @@ module _ (B : Board) (shape : Shape B) (p : ℕ) (lp : p < 64) (heads : Heads) (
           }
 
   -- A RETRACTION, either way
-  pub retract_stored : {R' : RuleBytes} {killers' slots' : List ℕ} {reopened touched : ℕ} → RetractDone p (bytes_in heads rows) R' killers killers' slots slots' reopened touched
+  pub retract_stored : {R' : RuleBytes} {killers' slots' : List ℕ} {reopened touched : ℕ} → RetractDone p (rules_in rows heads) R' killers killers' slots slots' reopened touched
       → RetractStored B p heads R' killers killers' slots slots' reopened touched
   retract_stored (inl q) = quiet_stored q
   retract_stored (inr d) = reworked_stored d

@@ -1,6 +1,6 @@
 -- How the masks of a call become known, and that strikes keep them. Assumes nothing.
-use Rattle.std.specs.Prelude.{◌≡◌, refl, List, ℕ, ◌+◌, ◌*◌, ◌%◌, ◌^◌, ◌≤◌, ◌<◌, length, get_or, set}
-use Rattle.std.proofs.Common.{sym, ◌∙◌, ⊎_elim, arith, eq-or-lt_of_le, length-set, get_or-set_same, get_or-set_other}
+use Rattle.std.specs.Prelude.{◌≡◌, refl, List, ℕ, ◌*◌, ◌%◌, ◌^◌, ◌<◌, length, get_or, set}
+use Rattle.std.proofs.Common.{sym, ◌∙◌, ⊎_elim, arith, get_or-set_same, get_or-set_other}
 use Rattle.std.specs.Int.Bits.{bit_and, bit_or}
 use Rattle.tables.specs.Masks.{Has, IsMask}
 use Rattle.tables.specs.Laws.Facts.{eq_or_ne}
@@ -12,34 +12,31 @@ use Rattle.layout.specs.Places.{call_of, slot_place, cause_of}
 use Rattle.filter_support.specs.Walk.{StruckSets}
 use Rattle.filter_support.specs.Strikes.{SlotsStruck, CallWith, Lacks, AllOpen}
 use Rattle.filter_support.specs.Known.{KnownCall, Known, ColumnCall, Learnt, StillKnown}
+use Rattle.filter_support.specs.declared.known.CallMasks.{CallMasks}
 use Rattle.filter_support.specs.Laws.Strikes.{was_open, strikes_open}
 
 -- at first no call is known
-pub known_none : (slots opened struck : List ℕ) → length opened ≡ 32 → length struck ≡ 32 → Known (Has 0) slots opened struck
-known_none slots opened struck a b = record { opened_size = a; struck_size = b; each = λ c l h. absurd (has_some 0 c h refl) }
-
--- of what is known, a part
-pub known_some : {C D : ℕ → Type 0} {slots opened struck : List ℕ} → ((c : ℕ) → D c → C c) → Known C slots opened struck → Known D slots opened struck
-known_some f x = record { opened_size = x.opened_size; struck_size = x.struck_size; each = λ c l d. x.each c l (f c d) }
+pub known_none : (slots : List ℕ) (masks : CallMasks) → masks.known ≡ 0 → Known slots masks
+known_none slots masks e = record { each = λ c l h. absurd (has_some masks.known c h e) }
 
 -- ONE CALL: its masks are known, or are made
-pub learnt_before : (slots opened struck : List ℕ) (known c : ℕ) → c < 32 → Known (Has known) slots opened struck → (bit_and (1 * 2 ^ c % 4294967296) known ≡ 0 → ⊥)
-    → Learnt (λ d. d ≡ c) known known slots opened struck
-learnt_before slots opened struck known c l x n =
-    let has : Has known c = ⊎_elim (λ (h : Has known c). h) (λ h. absurd ((rw (shl_one 32 c l) at n) (clear_apart c known (not_has known c h)))) (has_or_not known c) in
+pub learnt_before : (slots : List ℕ) (masks : CallMasks) (c : ℕ) → c < 32 → Known slots masks → (bit_and (1 * 2 ^ c % 4294967296) masks.known ≡ 0 → ⊥) → Learnt (λ d. d ≡ c) slots masks masks
+learnt_before slots masks c l x n =
+    let has : Has masks.known c = ⊎_elim (λ (h : Has masks.known c). h) (λ h. absurd ((rw (shl_one 32 c l) at n) (clear_apart c masks.known (not_has masks.known c h)))) (has_or_not masks.known c) in
     record { masks = x; stays = λ d h. h; joins = λ d e. rw e has }
 
-pub learnt_made : (slots opened struck : List ℕ) (known c : ℕ) {a b : ℕ} → c < 32 → Known (Has known) slots opened struck
-    → IsMask (λ s. cause_of slots c s ≡ 255) 32 a → IsMask (λ s. cause_of slots c s < 64) 32 b
-    → Learnt (λ d. d ≡ c) known (bit_or known (1 * 2 ^ c % 4294967296)) slots (set opened c a) (set struck c b)
-learnt_made slots opened struck known c {a} {b} l x ma mb =
-    let la = x.opened_size in
-    let lb = x.struck_size in
+abbrev pub made : CallMasks → ℕ → ℕ → ℕ → CallMasks
+made masks c a b = record { opened = set masks.opened c a; struck = set masks.struck c b; known = bit_or masks.known (1 * 2 ^ c % 4294967296) }
+
+pub learnt_made : (slots : List ℕ) (masks : CallMasks) (c : ℕ) {a b : ℕ} → c < 32 → length masks.opened ≡ 32 → length masks.struck ≡ 32 → Known slots masks
+    → IsMask (λ s. cause_of slots c s ≡ 255) 32 a → IsMask (λ s. cause_of slots c s < 64) 32 b → Learnt (λ d. d ≡ c) slots masks (made masks c a b)
+learnt_made slots masks c {a} {b} l la lb x ma mb =
+    let opened = masks.opened in
+    let struck = masks.struck in
+    let known = masks.known in
     rw (shl_one 32 c l)
     (record {
       masks = record {
-        opened_size = length-set opened c a ∙ la;
-        struck_size = length-set struck c b ∙ lb;
         each = λ d ld h.
             ⊎_elim
             (λ (e : d ≡ c).
@@ -62,30 +59,8 @@ learnt_made slots opened struck known c {a} {b} l x ma mb =
 
 -- THE CALLS OF A RULE'S COLUMNS, one after another
 module _ {scope : List ℕ} {p : ℕ} where
-  pub learnt_none : (slots opened struck : List ℕ) (known : ℕ) → Known (Has known) slots opened struck → Learnt (ColumnCall scope p 0) known known slots opened struck
-  learnt_none slots opened struck known x = record { masks = x; stays = λ d h. h; joins = λ d x. let l = x.inside in absurd (omega arith) }
-
-  pub learnt_more : {k known all r : ℕ} {slots opened struck made kept : List ℕ} → Learnt (ColumnCall scope p k) known all slots opened struck
-      → Learnt (λ d. d ≡ call_of scope p k) all r slots made kept → Learnt (ColumnCall scope p (k + 1)) known r slots made kept
-  learnt_more {k} x y =
-      record {
-        masks = y.masks;
-        stays = λ d h. y.stays d (x.stays d h);
-        joins = λ d z.
-            let l = z.inside in
-            let le : z.column ≤ k = omega arith in
-            ⊎_elim
-            (λ (q : z.column ≡ k). y.joins d (rw q at z.is))
-            (λ lt. y.stays d (x.joins d (record { column = z.column; inside = lt; is = z.is })))
-            (eq-or-lt_of_le le);
-      }
-
-  pub learnt_at : {k n known r : ℕ} {slots opened struck : List ℕ} → Learnt (ColumnCall scope p k) known r slots opened struck → k ≤ n → n ≤ k
-      → Learnt (ColumnCall scope p n) known r slots opened struck
-  learnt_at {k} {n} x l g = let e : n ≡ k = omega arith in rw e x
-
   -- the sets of the columns' calls are those of their struck slots
-  pub struck_sets : {n known r : ℕ} {slots opened struck : List ℕ} {x : Columns} → Learnt (ColumnCall scope p n) known r slots opened struck → ColumnSets struck scope p n x
+  pub struck_sets : {n : ℕ} {slots : List ℕ} {before masks : CallMasks} {x : Columns} → Learnt (ColumnCall scope p n) slots before masks → ColumnSets masks.struck scope p n x
       → StruckSets slots scope p n x
   struck_sets y z =
       record {
@@ -97,19 +72,17 @@ module _ {scope : List ℕ} {p : ℕ} where
       }
 
 -- STRIKES KEEP WHAT IS KNOWN
-pub still_none : (slots opened struck : List ℕ) → StillKnown slots opened struck slots opened struck
-still_none slots opened struck = record { opened_size = refl; struck_size = refl; each = λ c l k. k }
+pub still_none : (slots : List ℕ) (masks : CallMasks) → StillKnown slots masks slots masks
+still_none slots masks = record { same = refl; each = λ c l k. k }
 
-pub still_more : {a b c d e f g h i : List ℕ} → StillKnown a b c d e f → StillKnown d e f g h i → StillKnown a b c g h i
-still_more x y =
-    record { opened_size = y.opened_size ∙ x.opened_size; struck_size = y.struck_size ∙ x.struck_size; each = λ c l k. y.each c l (x.each c l k) }
+pub still_more : {a b e : List ℕ} {x y z : CallMasks} → StillKnown a x b y → StillKnown b y e z → StillKnown a x e z
+still_more s t = record { same = t.same ∙ s.same; each = λ c l k. t.each c l (s.each c l k) }
 
-pub known_still : {C : ℕ → Type 0} {a b c d e f : List ℕ} → Known C a b c → StillKnown a b c d e f → Known C d e f
-known_still x y =
-    record { opened_size = y.opened_size ∙ x.opened_size; struck_size = y.struck_size ∙ x.struck_size; each = λ c l h. y.each c l (x.each c l h) }
+pub masks_still : {a b : List ℕ} {x y : CallMasks} → Known a x → StillKnown a x b y → Known b y
+masks_still k s = record { each = λ c l h. s.each c l (k.each c l (rw s.same at h)) }
 
 -- the slots of call c that are open and not found
-module _ (slots opened struck : List ℕ) (c found lost : ℕ) (known : KnownCall slots opened struck c) (small : lost < 2 ^ 32) (diff : SetDifference (get_or opened c 0) found lost) where
+module _ (slots : List ℕ) (masks : CallMasks) (c found lost : ℕ) (known : KnownCall slots masks c) (small : lost < 2 ^ 32) (diff : SetDifference (get_or masks.opened c 0) found lost) where
   pub lost_open : AllOpen slots c lost
   lost_open = record { each = λ s h. known.opened_slots.only s (diff.only s (has_below 32 lost s small h) h).0 }
 
@@ -140,26 +113,26 @@ module _ (slots opened struck : List ℕ) (c found lost : ℕ) (known : KnownCal
     gone : (s : ℕ) → Has lost s → cause_of new c s ≡ p
     gone s h = let o = lost_open.each s h in x.assigned.written (slot_place c s) (s, o.0, (refl, h)) o.1
 
-    opened_now : IsMask (λ s. cause_of new c s ≡ 255) 32 (bit_and (get_or opened c 0) found)
+    opened_now : IsMask (λ s. cause_of new c s ≡ 255) 32 (bit_and (get_or masks.opened c 0) found)
     opened_now =
         record {
           has = λ s ls o.
               let was = known.opened_slots.has s ls (was_open lp x (slot_place c s) o) in
-              and_has (get_or opened c 0) found s was
+              and_has (get_or masks.opened c 0) found s was
               (⊎_elim (λ (h : Has found s). h) (λ n. let g = gone s (diff.has s ls was n) in absurd (omega arith)) (has_or_not found s));
           only = λ s h.
-              let b = and_both (get_or opened c 0) found s h in
+              let b = and_both (get_or masks.opened c 0) found s h in
               let o = known.opened_slots.only s b.0 in
               (o.0, kept c s o.0 (λ e g. (diff.only s o.0 g).1 b.1) ∙ o.1);
         }
 
-    struck_now : IsMask (λ s. cause_of new c s < 64) 32 (bit_or (get_or struck c 0) lost)
+    struck_now : IsMask (λ s. cause_of new c s < 64) 32 (bit_or (get_or masks.struck c 0) lost)
     struck_now =
         record {
           has = λ s ls z.
               ⊎_elim
-              (λ h. or_right (get_or struck c 0) lost s h)
-              (λ n. or_left (get_or struck c 0) lost s (known.struck_slots.has s ls (let q = kept c s ls (λ e g. n g) in omega arith)))
+              (λ h. or_right (get_or masks.struck c 0) lost s h)
+              (λ n. or_left (get_or masks.struck c 0) lost s (known.struck_slots.has s ls (let q = kept c s ls (λ e g. n g) in omega arith)))
               (has_or_not lost s);
           only = λ s h.
               ⊎_elim
@@ -168,26 +141,28 @@ module _ (slots opened struck : List ℕ) (c found lost : ℕ) (known : KnownCal
               let z = k.1 in
               (k.0, let q = kept c s k.0 (λ e g. let w = (lost_open.each s g).1 in omega arith) in omega arith))
               (λ g. ((lost_open.each s g).0, let q = gone s g in omega arith))
-              (or_either (get_or struck c 0) lost s h);
+              (or_either (get_or masks.struck c 0) lost s h);
         }
 
-    pub still_struck : c < length opened → c < length struck → StillKnown slots opened struck new (set opened c (bit_and (get_or opened c 0) found)) (set struck c (bit_or (get_or struck c 0) lost))
+    abbrev pub struck_masks : CallMasks
+    struck_masks = record { opened = set masks.opened c (bit_and (get_or masks.opened c 0) found); struck = set masks.struck c (bit_or (get_or masks.struck c 0) lost); known = masks.known }
+
+    pub still_struck : c < length masks.opened → c < length masks.struck → StillKnown slots masks new struck_masks
     still_struck lo ls =
         record {
-          opened_size = length-set opened c (bit_and (get_or opened c 0) found);
-          struck_size = length-set struck c (bit_or (get_or struck c 0) lost);
+          same = refl;
           each = λ d ld k.
               ⊎_elim
               (λ (e : d ≡ c).
               rw e
               (record {
-                opened_slots = rw (get_or-set_same opened c (bit_and (get_or opened c 0) found) 0 lo) opened_now;
-                struck_slots = rw (get_or-set_same struck c (bit_or (get_or struck c 0) lost) 0 ls) struck_now;
+                opened_slots = rw (get_or-set_same masks.opened c (bit_and (get_or masks.opened c 0) found) 0 lo) opened_now;
+                struck_slots = rw (get_or-set_same masks.struck c (bit_or (get_or masks.struck c 0) lost) 0 ls) struck_now;
               }))
               (λ ne.
               record {
-                opened_slots = rw (get_or-set_other opened c d (bit_and (get_or opened c 0) found) 0 ne) (mask_in (λ s l o. sym (same d ne s l) ∙ o) (λ s l o. same d ne s l ∙ o) k.opened_slots);
-                struck_slots = rw (get_or-set_other struck c d (bit_or (get_or struck c 0) lost) 0 ne)
+                opened_slots = rw (get_or-set_other masks.opened c d (bit_and (get_or masks.opened c 0) found) 0 ne) (mask_in (λ s l o. sym (same d ne s l) ∙ o) (λ s l o. same d ne s l ∙ o) k.opened_slots);
+                struck_slots = rw (get_or-set_other masks.struck c d (bit_or (get_or masks.struck c 0) lost) 0 ne)
                     (mask_in (λ s l z. let q = same d ne s l in omega arith) (λ s l z. let q = same d ne s l in omega arith) k.struck_slots);
               })
               (eq_or_ne d c);

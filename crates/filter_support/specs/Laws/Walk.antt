@@ -6,21 +6,14 @@ use Rattle.tables.specs.Masks.{Has}
 use Rattle.tables.specs.Sweep.{Swept}
 use Rattle.layout.specs.Places.{slot_of, killer_of, row_cell}
 use Rattle.masks.specs.declared.columns.Columns.{Columns}
-use Rattle.masks.specs.Columns.{column_of, InColumn, no_columns, first_two, first_three, RowMasks}
+use Rattle.masks.specs.Columns.{column_of, InColumn, no_columns, first_columns, PastEmpty, RowMasks}
 use Rattle.filter_support.specs.Rows.{HoldsStruck, Killed, Support, Unsupported}
 use Rattle.filter_support.specs.Strikes.{NotIn}
 use Rattle.filter_support.specs.Walk.{StruckSets, FirstMeeting, killer_now, alive_set, WithRow, MaskKilled, RowWalked, Walked, WalkedColumns}
 use Rattle.tables.specs.Laws.Facts.{eq_or_ne, lt_or_le}
 use Rattle.tables.specs.Laws.Masks.{power_same, power_has, apart_clear, clear_apart, has_some, has_or_not, not_has, or_left, or_right, or_either}
 use Rattle.tables.specs.Laws.Sweep.{one_set, swept_none, swept_more}
-use Rattle.masks.specs.Laws.Columns.{two, three, none_in}
-
--- THE FIRST MEETING: none before column r, and one there
-pub meeting_at : (x y : Columns) {r : ℕ} → r < 4 → (bit_and (column_of x r) (column_of y r) ≡ 0 → ⊥) → ((k : ℕ) → k < r → bit_and (column_of x k) (column_of y k) ≡ 0) → FirstMeeting x y r
-meeting_at x y l here before = record { none = λ e. absurd (omega arith); some = λ n. (l, here, before) }
-
-pub meeting_none : (x y : Columns) → ((k : ℕ) → k < 4 → bit_and (column_of x k) (column_of y k) ≡ 0) → FirstMeeting x y 255
-meeting_none x y none = record { none = λ e. none; some = λ n. absurd (n refl) }
+use Rattle.masks.specs.Laws.Columns.{none_in, first_same, first_in}
 
 -- A ROW'S KILLER, from the masks of its slots
 module _ (rows : List ℕ) (row struck : Columns) (p w : ℕ) (masks : RowMasks rows p w row) where
@@ -117,9 +110,6 @@ module _ (rows : List ℕ) (struck : Columns) (p : ℕ) where
           (λ t. record { row = w; inside = omega arith; lives = t.0; holds = t.1 })
           (b.only k s l i)
 
-  pub walked_at : {w m : ℕ} {killers killed : List ℕ} {x : Columns} → Walked rows struck p w killers killed x → w ≤ m → m ≤ w → Walked rows struck p m killers killed x
-  walked_at {w} {m} a l g = let e : m ≡ w = omega arith in rw e a
-
 -- WHAT THE MASKS MEAN: a row is killed as its slots' bytes say
 module _ (rows slots scope : List ℕ) (p n : ℕ) (few : n ≤ 4) (struck : Columns) (known : StruckSets slots scope p n struck) where
   in_struck : (w k : ℕ) → k < n → InColumn struck k (slot_of rows p w k) → HoldsStruck rows slots scope p w k
@@ -154,26 +144,17 @@ module _ (rows slots scope : List ℕ) (p n : ℕ) (few : n ≤ 4) (struck : Col
   pub walk_kills : {m : ℕ} {killers killed : List ℕ} → Swept 0 (MaskKilled rows struck p) (64 * p) m killers killed → Swept 0 (Killed rows slots scope p n) (64 * p) m killers killed
   walk_kills s = record { len = s.len; inside = λ w l. killed_by w _ _ (s.inside w l); below = s.below; above = s.above }
 
--- A RULE OF FEWER COLUMNS
-module _ {rows : List ℕ} {struck : Columns} {p m : ℕ} {killers killed : List ℕ} {x : Columns} where
-  pub walked_two : (n : ℕ) → n < 3 → Walked rows struck p m killers killed x → WalkedColumns rows struck p n m killers killed (first_two x)
-  walked_two n l v =
+-- A RULE OF n COLUMNS: a walk over the first m of them, where the others are empty
+module _ {rows : List ℕ} {struck : Columns} {p n h : ℕ} {killers killed : List ℕ} {x : Columns} where
+  pub walked_first : (m : ℕ) → 1 < m → n ≤ m → n ≤ 4 → PastEmpty n struck → Walked rows (first_columns m struck) p h killers killed x
+      → WalkedColumns rows struck p n h killers killed (first_columns m x)
+  walked_first m two few four past w =
+      let v : Walked rows struck p h killers killed x = rw (first_same m two struck n few past) at w in
       record {
         kills = v.kills;
-        has = λ k s lk h. two (λ j. InColumn x j s → InColumn (first_two x) j s) (λ i. i) (λ i. i) k (omega arith) (v.has k s (omega arith) h);
-        only = λ k s lk i. v.only k s (omega arith) (two (λ j. InColumn (first_two x) j s → InColumn x j s) (λ i. i) (λ i. i) k (omega arith) i);
+        has = λ k s lk i. rw (first_in m two x k (omega arith) (omega arith)) (v.has k s (omega arith) i);
+        only = λ k s lk i. v.only k s (omega arith) (rw (first_in m two x k (omega arith) (omega arith)) at i);
       }
-
-  pub walked_three : (n : ℕ) → n < 4 → Walked rows struck p m killers killed x → WalkedColumns rows struck p n m killers killed (first_three x)
-  walked_three n l v =
-      record {
-        kills = v.kills;
-        has = λ k s lk h. three (λ j. InColumn x j s → InColumn (first_three x) j s) (λ i. i) (λ i. i) (λ i. i) k (omega arith) (v.has k s (omega arith) h);
-        only = λ k s lk i. v.only k s (omega arith) (three (λ j. InColumn (first_three x) j s → InColumn x j s) (λ i. i) (λ i. i) (λ i. i) k (omega arith) i);
-      }
-
-  pub walked_four : (n : ℕ) → n ≤ 4 → Walked rows struck p m killers killed x → WalkedColumns rows struck p n m killers killed x
-  walked_four n l v = record { kills = v.kills; has = λ k s lk. v.has k s (omega arith); only = λ k s lk. v.only k s (omega arith) }
 
 -- A SLOT THAT IS NOT FOUND has no support
 module _ {rows : List ℕ} {struck : Columns} {p m : ℕ} {killers killed : List ℕ} {x : Columns} {n : ℕ} (v : WalkedColumns rows struck p n m killers killed x) where

@@ -1,15 +1,15 @@
 -- The rules on each call, rule by rule; the rules on the calls of a mask; and the pending rules. Assumes nothing.
-use Rattle.std.specs.Prelude.{◌≡◌, refl, List, ◌⊎◌, Bool, true, false, ℕ, ◌+◌, ◌-◌, ◌*◌, ◌/◌, ◌^◌, ◌≤◌, ◌<◌, length, get_or, set, replicate}
-use Rattle.std.proofs.Common.{sym, ap, ◌∙◌, inl, inr, ⊎_elim, arith, ne_eqb, length-set, get_or-set_same, get_or-set_other}
+use Rattle.std.specs.Prelude.{◌≡◌, refl, List, ◌⊎◌, Some, Bool, true, false, ℕ, ◌+◌, ◌-◌, ◌*◌, ◌/◌, ◌^◌, ◌≤◌, ◌<◌, length, get_or, set, replicate}
+use Rattle.std.proofs.Common.{sym, ap, ◌∙◌, inl, inr, ⊎_elim, arith, eq-or-lt_of_le, ne_eqb, length-set, get_or-set_same, get_or-set_other}
 use Rattle.std.specs.Int.Bits.{bit_and, bit_or}
-use Rattle.std.specs.Int.Count.{count_trailing_zeros, trailing_of_zero}
+use Rattle.std.specs.Int.Count.{count_trailing_zeros}
 use Rattle.std.proofs.lemmas.List.{length-replicate, get_or-replicate}
 use Rattle.std.proofs.Math.ListN.{get_or-eq_default}
 use Rattle.std.proofs.Math.Pow.{pow-lt}
 use Rattle.std.proofs.lemmas.Nat.{shr_le}
 use Rattle.tables.specs.Assign.{Any, Flagged, Below}
 use Rattle.tables.specs.Masks.{bit_of, Has, flags_of}
-use Rattle.tables.specs.Sweep.{One, Swept}
+use Rattle.tables.specs.Sweep.{Swept}
 use Rattle.tables.specs.Laws.Facts.{eq_or_ne, lt_or_le}
 use Rattle.tables.specs.Laws.Left.{Left, Removed, left_all, left_lowest, left_more, taken_lowest, taken_only, taken_all}
 use Rattle.tables.specs.Laws.Flags.{flags_length, flag_set, flag_clear, flags_set}
@@ -30,14 +30,8 @@ use Rattle.tables.specs.Laws.Masks.{
   or_either,
   mask_none,
 }
-use Rattle.tables.specs.Laws.Sweep.{one_set, swept_more}
 use Rattle.layout.specs.Places.{call_of, columns_of}
-use Rattle.masks.specs.Laws.Columns.{four}
-use Rattle.masks.specs.Rules.{OnCalls, OnCall, RulesTo, RulesOn, Inserted, ColumnRule, ScopeRule, RuleDropped, OnAny, RulesOnAny, Without, Enqueues, NextRule}
-
--- RULES JOIN CALLS. Where none does, nothing changes
-pub inserted_none : (Q : ℕ → ℕ → Type 0) (l : List ℕ) → ((c s : ℕ) → Q c s → ⊥) → Inserted Q l l
-inserted_none Q l none = record { size = refl; stays = λ c s h. h; joins = λ c s q. absurd (none c s q); only = λ c s h. inl h }
+use Rattle.masks.specs.Rules.{OnCalls, OnCall, RulesTo, Inserted, ScopeRule, RuleDropped, OnAny, RulesOnAny, Without, Enqueues, NextRule}
 
 -- one rule joins one call by its bit
 module _ (Q : ℕ → ℕ → Type 0) (l : List ℕ) (d q : ℕ) (here : d < length l) (sets : Q d q) (alone : (c s : ℕ) → Q c s → (c ≡ d) × (s ≡ q)) where
@@ -68,50 +62,33 @@ module _ (Q : ℕ → ℕ → Type 0) (l : List ℕ) (d q : ℕ) (here : d < len
           (λ ne. inl (rw (get_or-set_other l d c v 0 ne) at h))
           (eq_or_ne c d)
 
--- one set after another is both
-pub inserted_both : {P Q : ℕ → ℕ → Type 0} {a b e : List ℕ} → Inserted P a b → Inserted Q b e → Inserted (λ c s. P c s ⊎ Q c s) a e
-inserted_both x y =
-    record {
-      size = y.size ∙ x.size;
-      stays = λ c s h. y.stays c s (x.stays c s h);
-      joins = λ c s z. ⊎_elim (λ p. y.stays c s (x.joins c s p)) (λ q. y.joins c s q) z;
-      only = λ c s h. ⊎_elim (λ g. ⊎_elim (λ o. inl o) (λ p. inr (inl p)) (x.only c s g)) (λ q. inr (inr q)) (y.only c s h);
-    }
-
--- the set may be put in other words
-pub inserted_same : (P Q : ℕ → ℕ → Type 0) {a b : List ℕ} → ((c s : ℕ) → Q c s → P c s) → ((c s : ℕ) → P c s → Q c s) → Inserted P a b → Inserted Q a b
-inserted_same P Q back forth x =
-    record {
-      size = x.size;
-      stays = x.stays;
-      joins = λ c s q. x.joins c s (back c s q);
-      only = λ c s h. ⊎_elim (λ o. inl o) (λ p. inr (forth c s p)) (x.only c s h);
-    }
-
--- the four columns of a rule, of which n are looked at
-pub inserted_four : (scope : List ℕ) (q n : ℕ) {a b d e f : List ℕ} → n ≤ 4
-    → Inserted (ColumnRule scope q n 0) a b → Inserted (ColumnRule scope q n 1) b d → Inserted (ColumnRule scope q n 2) d e → Inserted (ColumnRule scope q n 3) e f
-    → Inserted (ScopeRule scope q n) a f
-inserted_four scope q n le w x y z = inserted_same Each (ScopeRule scope q n) back forth (inserted_both (inserted_both (inserted_both w x) y) z)
+-- one column more
+pub inserted_more : (scope : List ℕ) (q k : ℕ) {a b : List ℕ} → Inserted (ScopeRule scope q k) a b → call_of scope q k < length b
+    → Inserted (ScopeRule scope q (k + 1)) a (set b (call_of scope q k) (bit_or (get_or b (call_of scope q k) 0) (2 ^ q)))
+inserted_more scope q k {a} {b} x l = record { size = y.size ∙ x.size; stays = λ c s h. y.stays c s (x.stays c s h); joins = joins; only = only }
   where
-    Each : ℕ → ℕ → Type 0
-    Each c s = ((ColumnRule scope q n 0 c s ⊎ ColumnRule scope q n 1 c s) ⊎ ColumnRule scope q n 2 c s) ⊎ ColumnRule scope q n 3 c s
+    One : ℕ → ℕ → Type 0
+    One c s = (c ≡ call_of scope q k) × (s ≡ q)
 
-    back : (c s : ℕ) → ScopeRule scope q n c s → Each c s
-    back c s t =
+    y : Inserted One b (set b (call_of scope q k) (bit_or (get_or b (call_of scope q k) 0) (2 ^ q)))
+    y = inserted_one One b (call_of scope q k) q l (refl, refl) (λ c s o. o)
+
+    joins : (c s : ℕ) → ScopeRule scope q (k + 1) c s → Has (get_or (set b (call_of scope q k) (bit_or (get_or b (call_of scope q k) 0) (2 ^ q))) c 0) s
+    joins c s t =
         let o = t.1 in
         let lt = o.1 in
-        four (λ k. ColumnRule scope q n k c s → Each c s) (λ v. inl (inl (inl v))) (λ v. inl (inl (inr v))) (λ v. inl (inr v)) (λ v. inr v) o.0 (omega arith) (t.0, lt, o.2)
+        let le : o.0 ≤ k = omega arith in
+        ⊎_elim
+        (λ (e : o.0 ≡ k). y.joins c s (sym (rw e at o.2), t.0))
+        (λ less. y.stays c s (x.joins c s (t.0, (o.0, less, o.2))))
+        (eq-or-lt_of_le le)
 
-    one : (c s k : ℕ) → ColumnRule scope q n k c s → ScopeRule scope q n c s
-    one c s k v = (v.0, (k, v.1, v.2))
-
-    forth : (c s : ℕ) → Each c s → ScopeRule scope q n c s
-    forth c s t = ⊎_elim (λ u. ⊎_elim (λ v. ⊎_elim (one c s 0) (one c s 1) v) (one c s 2) u) (one c s 3) t
-
--- a rule of no columns joins no call
-pub inserted_bare : (scope : List ℕ) (q n : ℕ) (l : List ℕ) → n ≡ 0 → Inserted (ScopeRule scope q n) l l
-inserted_bare scope q n l z = inserted_none (ScopeRule scope q n) l (λ c s t. let lt = t.1.1 in omega arith)
+    only : (c s : ℕ) → Has (get_or (set b (call_of scope q k) (bit_or (get_or b (call_of scope q k) 0) (2 ^ q))) c 0) s → Has (get_or a c 0) s ⊎ ScopeRule scope q (k + 1) c s
+    only c s h =
+        ⊎_elim
+        (λ g. ⊎_elim (λ z. inl z) (λ t. let lt = t.1.1 in inr (t.0, (t.1.0, omega arith, t.1.2))) (x.only c s g))
+        (λ o. inr (o.1, (k, omega arith, sym o.0)))
+        (y.only c s h)
 
 -- THE RULES ON EACH CALL, before the first rule
 pub rules_none : (arity scope : List ℕ) → RulesTo arity scope 0 (replicate 32 0)
@@ -144,10 +121,6 @@ rules_more {arity} {scope} {q} {n} {a} {b} e x y = record { size = y.size ∙ x.
         (omega arith, rw f z))
         (y.only c s h)
 
--- after the last rule, where the loop's test says that n is m
-pub rules_at : {arity scope : List ℕ} {n m : ℕ} {l : List ℕ} → RulesTo arity scope n l → n ≤ m → m ≤ n → RulesTo arity scope m l
-rules_at {n = n} {m = m} x le ge = let e : m ≡ n = omega arith in rw e x
-
 -- A RULE LEAVES a mask of 64 rules
 pub without_power : (m p : ℕ) → p < 64 → Without p m (bit_and m ((2 ^ 64 - 1) - 2 ^ p))
 without_power m p l =
@@ -160,13 +133,6 @@ without_power m p l =
 -- entry by entry, where masks have 64 bits
 abbrev pub Leaves : ℕ → ℕ → ℕ → ℕ → Type 0
 Leaves p c m r = Without p m r × (r < 2 ^ 64)
-
--- one entry more
-pub leaves_more : {p c v : ℕ} {a b : List ℕ} → c < length b → Swept 0 (Leaves p) 0 c a b → Without p (get_or b c 0) v → v < 2 ^ 64 → Swept 0 (Leaves p) 0 (c + 1) a (set b c v)
-leaves_more {p} {c} {v} {a} {b} l x w lv =
-    let e : 0 + c ≡ c = omega arith in
-    let one : One 0 (Leaves p) 0 c b (set b (0 + c) v) = one_set 0 (Leaves p) 0 c b v (omega arith) (rw e (w, lv)) in
-    swept_more 0 (Leaves p) 0 c a b (set b c v) x (rw e at one)
 
 -- after the last entry
 pub dropped : {p : ℕ} {a b : List ℕ} → Swept 0 (Leaves p) 0 32 a b → RuleDropped p a b
@@ -237,29 +203,19 @@ enqueues {on} {calls} {p} {pending} {rules} {r} lp lq lr x w = record { kept = k
         let g = sym (w.others q (has_below 64 r q lr h) ne) ∙ h in
         (ne, ⊎_elim (λ z. inl z) (λ z. inr (x.only q z)) (or_either pending rules q g))
 
--- the lowest of all is a pending rule, and 64 where there is none
-pub next_lowest : (m : ℕ) → m < 2 ^ 64 → NextRule m (count_trailing_zeros 64 m)
-next_lowest m l =
-    ⊎_elim
-    (λ (z : m ≡ 0).
-    let e : count_trailing_zeros 64 m ≡ 64 = rw z (trailing_of_zero 64) in
-    record { le = omega arith; here = λ lt. absurd (omega arith); absent = λ f. z })
-    (λ ne.
-    let x = lowest 64 m l (omega arith) in
-    let lt = x.place in
-    record { le = omega arith; here = λ h. x.here; absent = λ f. absurd (omega arith) })
-    (eq_or_ne m 0)
+-- THE NEXT RULE: the lowest of all is a pending rule, where there is one
+pub next_lowest : (m : ℕ) → m < 2 ^ 64 → (m ≡ 0 → ⊥) → NextRule m (Some (count_trailing_zeros 64 m))
+next_lowest m l ne = let x = lowest 64 m l (omega arith) in (x.place, x.here)
 
 -- so is the lowest above p
-pub next_above : (m p : ℕ) → m < 2 ^ 64 → (m / 2 ^ p / 2 ≡ 0 → ⊥) → NextRule m (p + 1 + count_trailing_zeros 64 (m / 2 ^ p / 2))
+pub next_above : (m p : ℕ) → m < 2 ^ 64 → (m / 2 ^ p / 2 ≡ 0 → ⊥) → NextRule m (Some (p + 1 + count_trailing_zeros 64 (m / 2 ^ p / 2)))
 next_above m p l ne =
     let above = m / 2 ^ p / 2 in
     let t = count_trailing_zeros 64 above in
     let x = lowest 64 above (omega (arith, shr_le m p)) (omega arith) in
     let e : p + 1 + t ≡ p + (1 + t) = omega arith in
     let h : Has m (p + 1 + t) = rw e (sym (bit_above m p (1 + t)) ∙ sym (bit_above (m / 2 ^ p) 1 t) ∙ x.here) in
-    let lt = has_below 64 m (p + 1 + t) l h in
-    record { le = omega arith; here = λ g. h; absent = λ f. absurd (omega arith) }
+    (has_below 64 m (p + 1 + t) l h, h)
 
 -- THE TABLE OF FLAGS of a mask without p has p clear
 pub flags_without : {p m r : ℕ} → p < 64 → Without p m r → flags_of 64 r ≡ set (flags_of 64 m) p false
@@ -281,8 +237,8 @@ back_same : (arity scope arity' scope' : List ℕ) (q : ℕ) → SameScope arity
 back_same arity scope arity' scope' q same = (sym same.0, λ k l. sym (same.1 k l))
 
 -- THE TABLE WITHOUT RULE p is that of the rules without it, where the columns of every other rule are as they were
-pub dropped_rules : (arity scope arity' scope' on on' : List ℕ) (p : ℕ) → p < 64 → RulesOn arity scope on → RuleDropped p on on' → get_or arity' p 0 ≡ 0
-    → ((q : ℕ) → (q ≡ p → ⊥) → q < 64 → SameScope arity scope arity' scope' q) → RulesOn arity' scope' on'
+pub dropped_rules : (arity scope arity' scope' on on' : List ℕ) (p : ℕ) → p < 64 → RulesTo arity scope 64 on → RuleDropped p on on' → get_or arity' p 0 ≡ 0
+    → ((q : ℕ) → (q ≡ p → ⊥) → q < 64 → SameScope arity scope arity' scope' q) → RulesTo arity' scope' 64 on'
 dropped_rules arity scope arity' scope' on on' p lp x y gone same = record { size = y.size ∙ x.size; each = λ c l. record { has = has c l; only = only c l } }
   where
     has : (c : ℕ) → c < 32 → (q : ℕ) → q < 64 → OnCall arity' scope' c q → Has (get_or on' c 0) q
@@ -297,7 +253,7 @@ dropped_rules arity scope arity' scope' on on' p lp x y gone same = record { siz
         (f.0, on_same arity' scope' arity scope c q (back_same arity scope arity' scope' q (same q was.1 f.0)) f.1)
 
 -- A RULE ON THE CALLS OF THE MASK, by its columns and by the table
-module _ {arity scope on : List ℕ} (x : RulesOn arity scope on) (calls q : ℕ) where
+module _ {arity scope on : List ℕ} (x : RulesTo arity scope 64 on) (calls q : ℕ) where
   any_of_columns : q < 64 → OnCalls (Has calls) scope q (columns_of arity q) → OnAny on calls q
   any_of_columns l o =
       let c = call_of scope q o.0 in
@@ -311,7 +267,7 @@ module _ {arity scope on : List ℕ} (x : RulesOn arity scope on) (calls q : ℕ
       (f.0, (k.0, k.1, rw k.2 o.2))
 
 -- THE FLAGS OF THE PENDING RULES after those on the calls of the mask joined and p left
-pub enqueued : {arity scope on : List ℕ} {calls p pending r : ℕ} → RulesOn arity scope on → p < 64 → Enqueues on calls p pending r
+pub enqueued : {arity scope on : List ℕ} {calls p pending r : ℕ} → RulesTo arity scope 64 on → p < 64 → Enqueues on calls p pending r
     → Flagged (Below (λ q j. (j ≡ q) × (q ≡ p → ⊥) × OnCalls (Has calls) scope q (columns_of arity q)) 64) (set (flags_of 64 pending) p false) (flags_of 64 r)
 enqueued {arity} {scope} {on} {calls} {p} {pending} {r} x lp y = record { len = flags_length 64 r ∙ sym size; written = written; each = each }
   where
@@ -354,6 +310,6 @@ enqueued {arity} {scope} {on} {calls} {p} {pending} {r} x lp y = record { len = 
         (lt_or_le j 64)
 
 -- and the first time, from none
-pub enqueued_first : {arity scope on : List ℕ} {calls r : ℕ} → RulesOn arity scope on → RulesOnAny on calls r
+pub enqueued_first : {arity scope on : List ℕ} {calls r : ℕ} → RulesTo arity scope 64 on → RulesOnAny on calls r
     → ((q : ℕ) → q < 64 → OnCalls (Has calls) scope q (columns_of arity q) → Has r q) × ((q : ℕ) → Has r q → (q < 64) × OnCalls (Has calls) scope q (columns_of arity q))
 enqueued_first {calls = calls} x y = (λ q l o. y.has q (any_of_columns x calls q l o), λ q h. columns_of_any x calls q (y.only q h))

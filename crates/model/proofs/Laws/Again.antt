@@ -1,7 +1,7 @@
 -- THE SAME BOARD AFTER A BACK (SCOPE 6.20): after a mark, then any commands, refused ones of every kind and marks under the other name among them, but no new board and no
 -- mark under the same name that is accepted, a back leaves the board as it was at the mark, byte for byte, without a draft. Nothing is assumed but that each command
 -- meets the entry's contract.
-use Rattle.std.specs.Prelude.{◌≡◌, refl, Bool, List, ◌++◌, ◌⊎◌, ℕ, ◌<◌, length, ltb}
+use Rattle.std.specs.Prelude.{◌≡◌, refl, Bool, List, ◌++◌, ◌⊎◌, ℕ, ◌<◌, length, ltb, Ok, Err}
 use Rattle.std.proofs.Common.{sym, ap, subst, ◌∙◌, inl, inr, arith, ltb-false}
 use Rattle.layout.specs.Bounds.{Sizes}
 use Rattle.layout.specs.Laws.Marks.{kept_rows, kept_killers, kept_slots}
@@ -13,8 +13,6 @@ use Rattle.layout.specs.Sizes.{CommandLent}
 use Rattle.layout.specs.Value.{empty_draft}
 use Rattle.layout.specs.declared.value.Draft.{Draft}
 use Rattle.layout.specs.declared.value.Heads.{Heads}
-use Rattle.model.specs.declared.answer.Answer.{Answer}
-use Rattle.model.specs.declared.answer.Answer.TheVariants as answer
 use Rattle.model.specs.declared.command.Command.{Command}
 use Rattle.model.specs.declared.command.Command.TheVariants as kind
 use Rattle.model.specs.declared.command.Read.{Read}
@@ -23,8 +21,8 @@ use Rattle.model.specs.Commands.{read_at}
 use Rattle.model.specs.Ledger.{Ledger, Member, lent_conditions, form_conditions, own_conditions, kind_conditions, step_by}
 use Rattle.model.specs.Lists.{Runs, done, then, whole_lending, Entered, After}
 use Rattle.model.specs.Marks.{MarksLeft, LeavesMarks, LeavesMarksOf, kept_as, brought_back}
-use Rattle.model.specs.Promise.{number_of, Promise}
-use Rattle.model.specs.Refusals.{first_of}
+use Rattle.model.specs.Promise.{Answer, Promise}
+use Rattle.model.specs.Refusals.{first_of, number_of}
 use Rattle.model.proofs.Laws.Lists.{IsOf, is_lengths, lengths_first, bad_lengths_stand, entered_keeps, runs_represent}
 use Rattle.model.proofs.Laws.Members.{BadLengths, lengths_or_promise}
 use Rattle.model.proofs.Laws.Marks.{stored_sizes, headed_sized, other_rows, other_killers, other_slots}
@@ -125,15 +123,15 @@ module _ (L : Ledger) (s s' : Whole) (bytes : List ℕ) (given : Answer) (is : I
 
     by_read : (r : Read) → (read_at bytes 0).read ≡ r → ApartRead name r → number_of given ≡ 0 → LeavesMarksOf r s.marked s'.marked → Under name t s'.marked
     by_read (found.Command c) read apart z l = by_kind c read apart z l
-    by_read (found.Refused k n) read apart z l = absurd l
+    by_read (found.Refused k f) read apart z l = absurd l
     by_read found.End read apart z l = absurd l
 
     left_under : (number_of given ≡ 0 → ApartRead name (read_at bytes 0).read) → Under name t s'.marked
     left_under apart = go given refl
       where
         go : (a : Answer) → given ≡ a → Under name t s'.marked
-        go (answer.Accepted r) e = let z = ap number_of e in by_read (read_at bytes 0).read refl (apart z) z (p.memory.marks z)
-        go (answer.Refused n) e = rw (p.memory.refused n e) u
+        go (Ok r) e = let z = ap number_of e in by_read (read_at bytes 0).read refl (apart z) z (p.memory.marks z)
+        go (Err f) e = rw (p.memory.refused f e) u
 
     -- A BACK makes it the board
     back_again : (read_at bytes 0).read ≡ found.Command (kind.Back name) → number_of given ≡ 0 → s'.marked.state ≡ without_draft t

@@ -1,11 +1,10 @@
 -- DEMAND 3 (SCOPE 6.12 to 6.15), from what each step keeps. The state after a list is the ledger's, so its records are right, and the rest is theory. The table
 -- after a list is current on the ledger's board (SCOPE 2.9).
 -- Assumes nothing.
-use Rattle.std.specs.Prelude.{◌≡◌, refl, List, ℕ, zero, suc, length, ltb}
+use Rattle.std.specs.Prelude.{◌≡◌, refl, List, ℕ, zero, suc, length, ltb, Err}
 use Rattle.std.proofs.Common.{ap, ◌∙◌, arith}
 use Rattle.model.specs.declared.answer.Report.{Report}
-use Rattle.model.specs.declared.answer.Answer.{Answer}
-use Rattle.model.specs.declared.answer.Answer.TheVariants as answer
+use Rattle.model.specs.declared.refusal.Refusal.{Refusal}
 use Rattle.model.specs.Board.{Board}
 use Rattle.model.specs.Records.{Recorded}
 use Rattle.model.specs.Commands.{read_at}
@@ -13,7 +12,7 @@ use Rattle.model.specs.Ledger.{Ledger, LedgerShape, Member, fresh, lent_conditio
 use Rattle.model.specs.Representation.{Represents}
 use Rattle.model.specs.Marks.{RepresentsMarked}
 use Rattle.model.specs.Summary.{Current}
-use Rattle.model.specs.Promise.{number_of, Decided, Promise}
+use Rattle.model.specs.Promise.{Answer, Decided, Promise}
 use Rattle.model.specs.Lists.{Runs, done, then, whole_lending, Entered, After, Demand3, Demand3Two}
 use Rattle.model.proofs.Laws.Theory.{on_live, open_viable, struck_caused, row_records, no_ring, escape_from_all, plan_open, viable_mono}
 use Rattle.model.proofs.Laws.Answers.{refused_by}
@@ -25,7 +24,7 @@ use Rattle.model.proofs.Laws.Summary.{fresh_current}
 use Rattle.layout.specs.Places.{cause_of, killer_of}
 use Rattle.layout.specs.Memory.{State, Whole, whole_of, lent_with, fresh_whole}
 use Rattle.layout.specs.Sizes.{CommandLent, marks_length}
-use Rattle.model.specs.Refusals.{first_of}
+use Rattle.model.specs.Refusals.{first_of, number_of}
 
 -- a state that is a ledger's has what demand 3 says of one list
 pub state_demand : (L : Ledger) (s : State) → LedgerShape L → Represents L s → Demand3 L.board s
@@ -93,13 +92,13 @@ is_lengths L w is =
 
 -- WHAT A DECISION LEAVES of such a whole is the next ledger's: accepted, the table is current on its board; refused, table and ledger are as they were
 pub decided_keeps : (L L' : Ledger) (s s' : Whole) {n : ℕ} {Reported : Report → Type 0} {given : Answer} → IsOf L s → LedgerShape L'
-    → Decided n Reported (RepresentsMarked L' s'.marked) given → ((m : ℕ) → n ≡ suc m → L' ≡ L) → ((m : ℕ) → given ≡ answer.Refused m → s'.table ≡ s.table)
+    → Decided n Reported (RepresentsMarked L' s'.marked) given → ((m : ℕ) → n ≡ suc m → L' ≡ L) → ((e : Refusal) → given ≡ Err e → s'.table ≡ s.table)
     → (number_of given ≡ 0 → (K : Ledger) → LedgerShape K → Represents K s'.marked.state → Current K.board s'.table) → IsOf L' s'
 decided_keeps L L' s s' {n} {Reported} {given} is shape decided alone kept current = (shape, decided.represents, go n refl)
   where
     go : (m : ℕ) → n ≡ m → Current L'.board s'.table
     go zero e = current (decided.number ∙ e) L' shape decided.represents.state
-    go (suc m) e = rw (alone m e, kept (suc m) (refused_by given m (decided.number ∙ e))) is.2
+    go (suc m) e = let r = refused_by given m (decided.number ∙ e) in rw (alone m e, kept r.0 r.1) is.2
 
 -- so what the command's promise leaves is the stepped ledger's
 pub promise_keeps : (L : Ledger) (s s' : Whole) (bytes : List ℕ) (given : Answer) → IsOf L s → Promise s bytes given s' → IsOf (step L (lent_with s) bytes) s'
@@ -120,8 +119,8 @@ module _ (bytes : List ℕ) where
   -- so the promise says refused, 1 or 22, and that a refusal changes nothing;
   promise_stays : (s s' : Whole) (given : Answer) → Promise s bytes given s' → BadLengths (lent_with s) → s' ≡ s
   promise_stays s s' given promise bad =
-      let refused : given ≡ answer.Refused (suc bad.0) = refused_by given bad.0 (promise.memory.early bad.0 (lengths_first (lent_with s) bad)) in
-      whole_same s s' (promise.memory.refused (suc bad.0) refused) (promise.table_kept (suc bad.0) refused)
+      let r = refused_by given bad.0 (promise.memory.early bad.0 (lengths_first (lent_with s) bad)) in
+      whole_same s s' (promise.memory.refused r.0 r.1) (promise.table_kept r.0 r.1)
 
   -- and the ledger stays as it is
   step_stays : (L : Ledger) (lent : CommandLent) → BadLengths lent → step L lent bytes ≡ L

@@ -1,17 +1,17 @@
 -- THE QUESTIONS' EQUATIONS SAY WHAT THEIR ANSWERS MEAN: on a state that is a ledger's, the checks off the value are the conditions off the ledger, and the
 -- bytes that an answer is read off are what the board's records say. Assumes nothing.
-use Rattle.std.specs.Prelude.{◌≡◌, refl, Bool, true, false, ◌||◌, cond, List, [], ◌∷◌, ◌↔◌, ◌⊎◌, ℕ, zero, suc, ◌+◌, ◌*◌, ◌<◌, ◌≤◌, length, get_or, drop, T, eqb, ltb, leb}
+use Rattle.std.specs.Prelude.{◌≡◌, refl, Bool, true, false, ◌||◌, cond, [], ◌∷◌, ◌↔◌, ◌⊎◌, ℕ, zero, suc, ◌+◌, ◌*◌, ◌<◌, ◌≤◌, length, get_or, drop, T, eqb, ltb, leb, Option, Some, None, Result, Ok, Err}
 use Rattle.std.proofs.Common.{sym, ap, subst, ◌∙◌, true≢false, inl, inr, ⊎_elim, arith, eq-or-lt_of_le, le_of_suc-le-suc, length-drop, get_or-take, get_or-drop, length-take-le, eqb→eq, eqb-true, ltb-false, leb-false, lt-ltb, le-ltb, le-leb, eq-eqb, ne_eqb}
-use Rattle.std.proofs.Math.Option.{Option, none, some}
+use Rattle.std.proofs.Math.Option.{none, some}
+use Rattle.std.proofs.Math.Option as kept
 use Rattle.std.proofs.Math.ListN.{get_or-eq_default}
 use Rattle.std.proofs.lemmas.Bool.{lt-leb}
 use Rattle.model.specs.declared.answer.OpenSlots.{OpenSlots}
-use Rattle.model.specs.declared.answer.OpenSlots.TheVariants as slots
 use Rattle.model.specs.declared.answer.SlotState.{SlotState}
 use Rattle.model.specs.declared.answer.SlotState.TheVariants as state
 use Rattle.model.specs.declared.answer.RowState.TheVariants as row
-use Rattle.model.specs.declared.answer.Support.{Support}
-use Rattle.model.specs.declared.answer.Support.TheVariants as support
+use Rattle.model.specs.declared.answer.RowState.{RowState}
+use Rattle.model.specs.declared.refusal.Refusal.{Refusal}
 use Rattle.model.specs.Board.{Rule, Board, call_at, slot_at, cancelled_on?, Cancelled, OnBoard, InForce, Active, Viable, Alive, Dead, Shape}
 use Rattle.model.specs.Records.{Struck, Caused, KillerIn, Recorded}
 use Rattle.model.specs.Tests.{some?, count_below, first, is_none}
@@ -19,10 +19,10 @@ use Rattle.model.specs.Ledger.{Ledger, LedgerShape, no_board?, not_in_force?}
 use Rattle.model.specs.Report.{open?}
 use Rattle.model.specs.Promise.{values_at}
 use Rattle.model.specs.Representation.{rule_or, rule_at, no_calls?, Represents}
-use Rattle.model.specs.Questions.{call_conditions, slot_conditions, row_conditions, support_conditions, slots_held, call_checks, slot_checks, row_checks, support_checks, mask_of, slots_number, slots_values, bit?, slots_by, slots_answer, SlotsMeans, SlotsPromise, state_number, state_values, state_by, state_answer, StateMeans, StatePromise, row_number, row_values, row_by, row_answer, RowMeans, RowPromise, bytes_by, row_bytes_answer, RowBytesPromise, support_number, support_values, supports?, column_cancelled?, support_row, found_row, found_value, support_by, support_answer, SupportingRow, SupportMeans, SupportValueMeans, SupportPromise}
+use Rattle.model.specs.Questions.{call_conditions, slot_conditions, row_conditions, support_conditions, slots_held, call_checks, slot_checks, row_checks, support_checks, mask_of, slots_values, bit?, slots_shown, SlotsMeans, SlotsPromise, state_values, state_shown, StateMeans, StatePromise, row_values, row_shown, RowMeans, RowPromise, bytes_by, row_bytes_answer, RowBytesPromise, support_values, supports?, column_cancelled?, support_row, found_row, found_value, support_shown, SupportingRow, SupportMeans, SupportValueMeans, SupportPromise}
 use Rattle.model.proofs.Laws.Tests.{T?, not→, or_false, and→, →and, →T, T→, →some, →eqb, none_passes, count_same, count_none}
 use Rattle.model.proofs.Laws.Theory.{live_on, live_not, not_live, active_live, below_active, open_viable, struck_caused, row_records}
-use Rattle.model.proofs.Laws.Refusals.{none_holds}
+use Rattle.model.proofs.Laws.Refusals.{none_holds, answered_number, answered_with, answered_values}
 use Rattle.model.proofs.Laws.Change.{column_below, on_range}
 use Rattle.model.proofs.Laws.Cancelled.{cancelled_off, cancelled_byte_lem, cancelled_held}
 use Rattle.model.proofs.Laws.Masks.{bit_below, bit_past, no_bits}
@@ -31,7 +31,7 @@ use Rattle.layout.specs.Places.{cause_of, columns_of, killer_of, rows_of, cancel
 use Rattle.layout.specs.Memory.{State, lent_of}
 use Rattle.layout.specs.Sizes.{bad_lent?}
 use Rattle.tables.specs.Laws.Facts.{true_false, true_or_false, lt_or_le}
-use Rattle.model.specs.Refusals.{first_of}
+use Rattle.model.specs.Refusals.{first_of, AnsweredBy}
 use Rattle.model.specs.Numbers as refused
 
 -- THE FIRST NUMBER that passes a test
@@ -71,10 +71,10 @@ first_found (suc n) f w h t e = go (λ l. first_found n f w l t e) (eq-or-lt_of_
 
 -- WHAT THE RECORDS MEAN: a slot's byte, and a row's
 module _ (B : Board) (cause killer : ℕ → ℕ → ℕ) (known : Recorded B cause killer) where
-  on_means : (c t : ℕ) → OnBoard B c t → StateMeans B c t (state_by 0 (cause c t))
+  on_means : (c t : ℕ) → OnBoard B c t → StateMeans B c t (Ok (state_shown (cause c t)))
   on_means c t on = go (known.sound.either c t on)
     where
-      go : (cause c t ≡ 255) ⊎ (cause c t < 64) → StateMeans B c t (state_by 0 (cause c t))
+      go : (cause c t ≡ 255) ⊎ (cause c t < 64) → StateMeans B c t (Ok (state_shown (cause c t)))
       go (inl e) = rw (eq-eqb (cause c t) 255 e) ((open_viable B cause killer known c t).0 (on, e))
       go (inr lt) =
           let why : Caused B cause c t = struck_caused B cause killer known c t (on, lt) in
@@ -84,10 +84,10 @@ module _ (B : Board) (cause killer : ℕ → ℕ → ℕ) (known : Recorded B ca
             (why.rule, why.force, why.call),
           )
 
-  state_means : (c t : ℕ) → t < get_or B.counts c 0 → (Cancelled B c → cause c t ≡ cancelled_byte) → StateMeans B c t (state_by 0 (cause c t))
+  state_means : (c t : ℕ) → t < get_or B.counts c 0 → (Cancelled B c → cause c t ≡ cancelled_byte) → StateMeans B c t (Ok (state_shown (cause c t)))
   state_means c t lt byte = go (T? (cancelled_on? B c))
     where
-      go : Cancelled B c ⊎ (Cancelled B c → ⊥) → StateMeans B c t (state_by 0 (cause c t))
+      go : Cancelled B c ⊎ (Cancelled B c → ⊥) → StateMeans B c t (Ok (state_shown (cause c t)))
       go (inl g) = let e = byte g in rw (ne_eqb (cause c t) 255 (λ o. omega arith), eq-eqb (cause c t) cancelled_byte e) g
       go (inr n) = on_means c t (live_on B c t (not_live B c n) lt)
 
@@ -99,10 +99,10 @@ module _ (B : Board) (cause killer : ℕ → ℕ → ℕ) (known : Recorded B ca
       go (inl a) = (λ e. a.1, λ a'. a.0)
       go (inr d) = (λ e. absurd (omega (arith, column_below B shape p r f (killer p w) d.0.column)), λ a. absurd (d.1 a))
 
-  row_means : Shape B → (p : ℕ) (r : Rule) → InForce B p r → (w : ℕ) → w < length r.rows → RowMeans B r w (row_by 0 (killer p w))
+  row_means : Shape B → (p : ℕ) (r : Rule) → InForce B p r → (w : ℕ) → w < length r.rows → RowMeans B r w (Ok (row_shown (killer p w)))
   row_means shape p r f w lw = go (row_records B cause killer known p r f w lw)
     where
-      go : ((killer p w ≡ 255) × Alive B r w) ⊎ (KillerIn B killer (Struck B cause) r p w × Dead B r w) → RowMeans B r w (row_by 0 (killer p w))
+      go : ((killer p w ≡ 255) × Alive B r w) ⊎ (KillerIn B killer (Struck B cause) r p w × Dead B r w) → RowMeans B r w (Ok (row_shown (killer p w)))
       go (inl a) = rw (eq-eqb (killer p w) 255 a.0) a.1
       go (inr d) =
           let k = killer p w in
@@ -118,7 +118,7 @@ module _ (L : Ledger) (shape : LedgerShape L) (s : State) (rep : Represents L s)
   limits : (p : ℕ) → (length (rule_at L.board p).scope ≤ 4) × (length (rule_at L.board p).rows ≤ 64)
   limits p = go (get_or L.board.rules p none) refl
     where
-      go : (o : Option Rule) → get_or L.board.rules p none ≡ o → (length (rule_or o).scope ≤ 4) × (length (rule_or o).rows ≤ 64)
+      go : (o : kept.Option Rule) → get_or L.board.rules p none ≡ o → (length (rule_or o).scope ≤ 4) × (length (rule_or o).rows ≤ 64)
       go none e = (omega arith, omega arith)
       go (some r) e = let g = shape.board.rules p r e in (g.most, g.few)
 
@@ -197,7 +197,7 @@ module _ (L : Ledger) (shape : LedgerShape L) (s : State) (rep : Represents L s)
   in_force_lem : (p : ℕ) → not_in_force? L p ≡ false → InForce L.board p (rule_at L.board p)
   in_force_lem p e = go (get_or L.board.rules p none) e
     where
-      go : (o : Option Rule) → is_none o ≡ false → o ≡ some (rule_or o)
+      go : (o : kept.Option Rule) → is_none o ≡ false → o ≡ some (rule_or o)
       go none e = absurd (true≢false e)
       go (some r) e = refl
 
@@ -220,7 +220,7 @@ module _ (L : Ledger) (shape : LedgerShape L) (s : State) (rep : Represents L s)
       )
 
   -- A MASK'S BIT is 1 exactly where the slot is viable
-  slots_means : (c : ℕ) → c < 32 → SlotsMeans L.board c (slots_by 0 s.slots c)
+  slots_means : (c : ℕ) → c < 32 → SlotsMeans L.board c (Ok (slots_shown s.slots c))
   slots_means c lc = (
     λ t. ⊎_elim (below t) (past t) (lt_or_le t 32),
     count_same 32 (open? s.slots c) (bit? (mask_of 32 (open? s.slots c))) (λ t lt. sym (bit_below 32 (open? s.slots c) t lt)),
@@ -286,7 +286,7 @@ module _ (L : Ledger) (shape : LedgerShape L) (s : State) (rep : Represents L s)
           (λ g. true_false (T→ (cancelled_on? L.board (call_at (rule_at L.board p) k)) g) (sym (column_cancelled p k lp lk) ∙ active)))
 
       active_means : (some? m (supports? s p k t) ≡ true) ⊎ (some? m (supports? s p k t) ≡ false)
-          → SupportMeans L.board (rule_at L.board p) k t (found_row m (support_row s p k t m))
+          → SupportMeans L.board (rule_at L.board p) k t (Ok (found_row m (support_row s p k t m)))
       active_means (inl e) =
           let found = first_some m (supports? s p k t) (→T (some? m (supports? s p k t)) e) in
           let w = first m (supports? s p k t) in
@@ -298,10 +298,10 @@ module _ (L : Ledger) (shape : LedgerShape L) (s : State) (rep : Represents L s)
           rw (active, first_none m (supports? s p k t) e, le-ltb m m (omega arith))
           (λ w h. absurd (true_false (supports w h) (none_passes m (supports? s p k t) e w h.there)))
 
-    support_means : SupportMeans L.board (rule_at L.board p) k t (found_row m (support_row s p k t m))
+    support_means : SupportMeans L.board (rule_at L.board p) k t (Ok (found_row m (support_row s p k t m)))
     support_means = go (true_or_false (column_cancelled? s p k))
       where
-        go : (column_cancelled? s p k ≡ true) ⊎ (column_cancelled? s p k ≡ false) → SupportMeans L.board (rule_at L.board p) k t (found_row m (support_row s p k t m))
+        go : (column_cancelled? s p k ≡ true) ⊎ (column_cancelled? s p k ≡ false) → SupportMeans L.board (rule_at L.board p) k t (Ok (found_row m (support_row s p k t m)))
         go (inl e) =
             rw (e, le-ltb m m (omega arith))
             (λ w h.
@@ -309,89 +309,57 @@ module _ (L : Ledger) (shape : LedgerShape L) (s : State) (rep : Represents L s)
             (→T (cancelled_on? L.board (call_at (rule_at L.board p) k)) (sym (column_cancelled p k lp lk) ∙ e)))
         go (inr e) = active_means e (true_or_false (some? m (supports? s p k t)))
 
--- AN ANSWER'S NUMBER is that of the refusal, and its values go with it
-slots_number_lem : (n : ℕ) (bytes : List ℕ) (c : ℕ) → slots_number (slots_by n bytes c) ≡ n
-slots_number_lem zero bytes c = refl
-slots_number_lem (suc n) bytes c = refl
-
-slots_values_lem : (n : ℕ) (bytes : List ℕ) (c : ℕ)
-    → slots_values (slots_by n bytes c) ≡ values_at n (mask_of 32 (open? bytes c) ∷ count_below 32 (open? bytes c) ∷ [])
-slots_values_lem zero bytes c = refl
-slots_values_lem (suc n) bytes c = refl
-
-state_number_lem : (n byte : ℕ) → state_number (state_by n byte) ≡ n
-state_number_lem (suc n) byte = refl
-state_number_lem zero byte = go (eqb byte 255) (eqb byte cancelled_byte)
+-- WHAT A BYTE SHOWS has the byte for its value
+state_values_lem : (byte : ℕ) → state_values (Ok (state_shown byte)) ≡ byte ∷ []
+state_values_lem byte = go (eqb byte 255) (eqb byte cancelled_byte) refl refl
   where
-    go : (b d : Bool) → state_number (cond b state.Open (cond d state.Cancelled (state.Struck byte))) ≡ 0
-    go true d = refl
-    go false true = refl
-    go false false = refl
-
-row_number_lem : (n byte : ℕ) → row_number (row_by n byte) ≡ n
-row_number_lem (suc n) byte = refl
-row_number_lem zero byte = go (eqb byte 255)
-  where
-    go : (b : Bool) → row_number (cond b row.Alive (row.Killed byte)) ≡ 0
-    go true = refl
-    go false = refl
-
-state_values_lem : (n byte : ℕ) → state_values (state_by n byte) ≡ values_at n (byte ∷ [])
-state_values_lem (suc n) byte = refl
-state_values_lem zero byte = go (eqb byte 255) (eqb byte cancelled_byte) refl refl
-  where
-    go : (b d : Bool) → eqb byte 255 ≡ b → eqb byte cancelled_byte ≡ d → state_values (cond b state.Open (cond d state.Cancelled (state.Struck byte))) ≡ byte ∷ []
+    go : (b d : Bool) → eqb byte 255 ≡ b → eqb byte cancelled_byte ≡ d → state_values (Ok (cond b state.Open (cond d state.Cancelled (state.Struck byte)))) ≡ byte ∷ []
     go true d e q = ap (λ (x : ℕ). x ∷ []) (sym (eqb-true byte 255 e))
     go false true e q = ap (λ (x : ℕ). x ∷ []) (sym (eqb-true byte cancelled_byte q))
     go false false e q = refl
 
-row_values_lem : (n byte : ℕ) → row_values (row_by n byte) ≡ values_at n (byte ∷ [])
-row_values_lem (suc n) byte = refl
-row_values_lem zero byte = go (eqb byte 255) refl
+row_values_lem : (byte : ℕ) → row_values (Ok (row_shown byte)) ≡ byte ∷ []
+row_values_lem byte = go (eqb byte 255) refl
   where
-    go : (b : Bool) → eqb byte 255 ≡ b → row_values (cond b row.Alive (row.Killed byte)) ≡ byte ∷ []
+    go : (b : Bool) → eqb byte 255 ≡ b → row_values (Ok (cond b row.Alive (row.Killed byte))) ≡ byte ∷ []
     go true e = ap (λ (x : ℕ). x ∷ []) (sym (eqb-true byte 255 e))
     go false e = refl
 
-support_number_lem : (n m w : ℕ) → support_number (support_by n m w) ≡ n
-support_number_lem (suc n) m w = refl
-support_number_lem zero m w = go (ltb w m)
+support_values_lem : (m w : ℕ) → support_values (Ok (found_row m w)) ≡ found_value m w ∷ []
+support_values_lem m w = go (ltb w m)
   where
-    go : (b : Bool) → support_number (cond b (support.Row w) support.Nothing) ≡ 0
+    go : (b : Bool) → support_values (Ok (cond b (Some w) None)) ≡ cond b w 255 ∷ []
     go true = refl
     go false = refl
 
-support_values_lem : (n m w : ℕ) → support_values (support_by n m w) ≡ values_at n (found_value m w ∷ [])
-support_values_lem (suc n) m w = refl
-support_values_lem zero m w = go (ltb w m)
-  where
-    go : (b : Bool) → support_values (cond b (support.Row w) support.Nothing) ≡ cond b w 255 ∷ []
-    go true = refl
-    go false = refl
-
--- THE PROMISES
-pub slots_promise : (s : State) (c : ℕ) → SlotsPromise s c (slots_answer s c)
-slots_promise s c =
+-- THE PROMISES, of each answer that the bytes give
+pub slots_promise : (s : State) (c : ℕ) (given : Result OpenSlots Refusal) → AnsweredBy (first_of (call_checks s c)) (slots_shown s.slots c) given → SlotsPromise s c given
+slots_promise s c given by =
     record {
-      equation = refl;
+      equation = by;
       answered = λ L shape rep. let e = ap first_of (call_checks_lem L shape s rep c) in
           record {
-            number = slots_number_lem (first_of (call_checks s c)) s.slots c ∙ e;
-            values = slots_values_lem (first_of (call_checks s c)) s.slots c
+            number = answered_number (first_of (call_checks s c)) (slots_shown s.slots c) given by ∙ e;
+            values = answered_values slots_values (λ f. refl) (first_of (call_checks s c)) (slots_shown s.slots c) given by
                 ∙ ap (λ (n : ℕ). values_at n (mask_of 32 (open? s.slots c) ∷ count_below 32 (open? s.slots c) ∷ [])) e;
-            means = λ z. subst (λ (n : ℕ). SlotsMeans L.board c (slots_by n s.slots c)) (sym (e ∙ z)) (slots_means L shape s rep c (call_there L shape s rep c z));
+            means = λ z. subst (λ (a : Result OpenSlots Refusal). SlotsMeans L.board c a)
+                (sym (answered_with (first_of (call_checks s c)) (slots_shown s.slots c) given by (e ∙ z)))
+                (slots_means L shape s rep c (call_there L shape s rep c z));
           };
     }
 
-pub state_promise : (s : State) (c t : ℕ) → StatePromise s c t (state_answer s c t)
-state_promise s c t =
+pub state_promise : (s : State) (c t : ℕ) (given : Result SlotState Refusal) → AnsweredBy (first_of (slot_checks s c t)) (state_shown (cause_of s.slots c t)) given → StatePromise s c t given
+state_promise s c t given by =
     record {
-      equation = refl;
+      equation = by;
       answered = λ L shape rep. let e = ap first_of (slot_checks_lem L shape s rep c t) in
           record {
-            number = state_number_lem (first_of (slot_checks s c t)) (cause_of s.slots c t) ∙ e;
-            values = state_values_lem (first_of (slot_checks s c t)) (cause_of s.slots c t) ∙ ap (λ (n : ℕ). values_at n (cause_of s.slots c t ∷ [])) e;
-            means = λ z. subst (λ (n : ℕ). StateMeans L.board c t (state_by n (cause_of s.slots c t))) (sym (e ∙ z))
+            number = answered_number (first_of (slot_checks s c t)) (state_shown (cause_of s.slots c t)) given by ∙ e;
+            values = answered_values state_values (λ f. refl) (first_of (slot_checks s c t)) (state_shown (cause_of s.slots c t)) given by
+                ∙ ap (values_at (first_of (slot_checks s c t))) (state_values_lem (cause_of s.slots c t))
+                ∙ ap (λ (n : ℕ). values_at n (cause_of s.slots c t ∷ [])) e;
+            means = λ z. subst (λ (a : Result SlotState Refusal). StateMeans L.board c t a)
+                (sym (answered_with (first_of (slot_checks s c t)) (state_shown (cause_of s.slots c t)) given by (e ∙ z)))
                 (let lt = slot_there L shape s rep c t z in
                 let lc = slot_call L shape s rep c t z in
                 let most = (shape.board.counts c lc).1 in
@@ -400,16 +368,19 @@ state_promise s c t =
           };
     }
 
-pub row_promise : (s : State) (p w : ℕ) → RowPromise s p w (row_answer s p w)
-row_promise s p w =
+pub row_promise : (s : State) (p w : ℕ) (given : Result RowState Refusal) → AnsweredBy (first_of (row_checks s p w)) (row_shown (killer_of s.killers p w)) given → RowPromise s p w given
+row_promise s p w given by =
     record {
-      equation = refl;
+      equation = by;
       answered = λ L shape rep. let e = ap first_of (row_checks_lem L shape s rep p w) in
           record {
-            number = row_number_lem (first_of (row_checks s p w)) (killer_of s.killers p w) ∙ e;
-            values = row_values_lem (first_of (row_checks s p w)) (killer_of s.killers p w) ∙ ap (λ (n : ℕ). values_at n (killer_of s.killers p w ∷ [])) e;
+            number = answered_number (first_of (row_checks s p w)) (row_shown (killer_of s.killers p w)) given by ∙ e;
+            values = answered_values row_values (λ f. refl) (first_of (row_checks s p w)) (row_shown (killer_of s.killers p w)) given by
+                ∙ ap (values_at (first_of (row_checks s p w))) (row_values_lem (killer_of s.killers p w))
+                ∙ ap (λ (n : ℕ). values_at n (killer_of s.killers p w ∷ [])) e;
             means = λ z. let there = row_there L shape s rep p w z in
-                subst (λ (n : ℕ). RowMeans L.board (rule_at L.board p) w (row_by n (killer_of s.killers p w))) (sym (e ∙ z))
+                subst (λ (a : Result RowState Refusal). RowMeans L.board (rule_at L.board p) w a)
+                (sym (answered_with (first_of (row_checks s p w)) (row_shown (killer_of s.killers p w)) given by (e ∙ z)))
                 (row_means L.board (cause_of s.slots) (killer_of s.killers) rep.stored.recorded shape.board p (rule_at L.board p) there.1 w there.2);
           };
     }
@@ -433,35 +404,36 @@ row_bytes_promise s p w =
     }
 
 -- the value of an answer says what the answer does
-value_means : (B : Board) (r : Rule) (k t : ℕ) (a : Support) → SupportMeans B r k t a → (w : ℕ) × (support_values a ≡ w ∷ []) × SupportValueMeans B r k t w
-value_means B r k t (support.Row w) m = (w, refl, inl m)
-value_means B r k t support.Nothing m = (255, refl, inr (refl, m))
-value_means B r k t (support.Refused n) m = absurd m
+value_means : (B : Board) (r : Rule) (k t : ℕ) (a : Result (Option ℕ) Refusal) → SupportMeans B r k t a → (w : ℕ) × (support_values a ≡ w ∷ []) × SupportValueMeans B r k t w
+value_means B r k t (Ok (Some w)) m = (w, refl, inl m)
+value_means B r k t (Ok None) m = (255, refl, inr (refl, m))
+value_means B r k t (Err e) m = absurd m
 
-pub support_promise : (s : State) (p k t : ℕ) → SupportPromise s p k t (support_answer s p k t)
-support_promise s p k t =
+pub support_promise : (s : State) (p k t : ℕ) (given : Result (Option ℕ) Refusal) → AnsweredBy (first_of (support_checks s p k t)) (support_shown s p k t) given → SupportPromise s p k t given
+support_promise s p k t given by =
     record {
-      equation = refl;
+      equation = by;
       answered = λ L shape rep. let e = support_checks_lem L shape s rep p k t in
           record {
-            number = support_number_lem (first_of (support_checks s p k t)) held (support_row s p k t held) ∙ e;
-            values = support_values_lem (first_of (support_checks s p k t)) held (support_row s p k t held)
+            number = answered_number (first_of (support_checks s p k t)) (support_shown s p k t) given by ∙ e;
+            values = answered_values support_values (λ f. refl) (first_of (support_checks s p k t)) (support_shown s p k t) given by
+                ∙ ap (values_at (first_of (support_checks s p k t))) (support_values_lem held (support_row s p k t held))
                 ∙ ap (λ (m : ℕ). values_at (first_of (support_checks s p k t)) (found_value m (support_row s p k t m) ∷ [])) (rows_held L shape s rep p)
                 ∙ ap (λ (n : ℕ). values_at n (found_value (length (rule_at L.board p).rows) (support_row s p k t (length (rule_at L.board p).rows)) ∷ [])) e;
             means = λ z. means L shape rep z;
-            value_means = λ z. value_means L.board (rule_at L.board p) k t (support_answer s p k t) (means L shape rep z);
+            value_means = λ z. value_means L.board (rule_at L.board p) k t given (means L shape rep z);
           };
     }
   where
     held : ℕ
     held = rows_of s.value.heads.lengths p
 
-    means : (L : Ledger) → LedgerShape L → Represents L s → first_of (support_conditions L (lent_of s) p k t) ≡ 0
-        → SupportMeans L.board (rule_at L.board p) k t (support_answer s p k t)
+    means : (L : Ledger) → LedgerShape L → Represents L s → first_of (support_conditions L (lent_of s) p k t) ≡ 0 → SupportMeans L.board (rule_at L.board p) k t given
     means L shape rep z =
         let there = column_there L shape s rep p k t z in
-        subst (λ (n : ℕ). SupportMeans L.board (rule_at L.board p) k t (support_by n held (support_row s p k t held))) (sym (support_checks_lem L shape s rep p k t ∙ z))
-        (subst (λ (m : ℕ). SupportMeans L.board (rule_at L.board p) k t (found_row m (support_row s p k t m))) (sym (rows_held L shape s rep p))
+        subst (λ (a : Result (Option ℕ) Refusal). SupportMeans L.board (rule_at L.board p) k t a)
+        (sym (answered_with (first_of (support_checks s p k t)) (support_shown s p k t) given by (support_checks_lem L shape s rep p k t ∙ z)))
+        (subst (λ (m : ℕ). SupportMeans L.board (rule_at L.board p) k t (Ok (found_row m (support_row s p k t m)))) (sym (rows_held L shape s rep p))
         (support_means L shape s rep p k t there.0 there.1 there.2))
 
 -- OF A CANCELLED CALL (SCOPE 5.6), on a ledger's memory, each answer that keeps its promise: what it means leaves no other
@@ -482,38 +454,39 @@ module _ (L : Ledger) (shape : LedgerShape L) (s : State) (rep : Represents L s)
     never_viable t v = cancelled_off L.board shape.board rep.stored c t g (v.self.slots c t v.has)
 
     -- the mask is 0 with 0 ones;
-    pub cancelled_mask : (given : OpenSlots) → SlotsPromise s c given → given ≡ slots.Mask 0 0
+    pub cancelled_mask : (given : Result OpenSlots Refusal) → SlotsPromise s c given → given ≡ Ok (record { mask = 0; count = 0 })
     cancelled_mask given promise = go given ((promise.answered L shape rep).means (rw (lent_passes, board_passes, call_passes) refl))
       where
-        go : (a : OpenSlots) → SlotsMeans L.board c a → a ≡ slots.Mask 0 0
-        go (slots.Mask mask ones) means =
-            let clear : (t : ℕ) → T (bit? mask t) → ⊥ = λ t h. never_viable t ((means.0 t).0 h) in
-            let none-set : mask ≡ 0 = no_bits mask mask (omega arith) clear in
-            let none_counted : ones ≡ 0 = means.1 ∙ count_none 32 (bit? mask) (λ t l. not→ (bit? mask t) (clear t)) in
-            ap (λ (x : ℕ). slots.Mask x ones) none-set ∙ ap (λ (x : ℕ). slots.Mask 0 x) none_counted
-        go (slots.Refused n) means = absurd means
+        go : (a : Result OpenSlots Refusal) → SlotsMeans L.board c a → a ≡ Ok (record { mask = 0; count = 0 })
+        go (Ok o) means =
+            let clear : (t : ℕ) → T (bit? o.mask t) → ⊥ = λ t h. never_viable t ((means.0 t).0 h) in
+            let none_set : o.mask ≡ 0 = no_bits o.mask o.mask (omega arith) clear in
+            let none_counted : o.count ≡ 0 = means.1 ∙ count_none 32 (bit? o.mask) (λ t l. not→ (bit? o.mask t) (clear t)) in
+            let same : ◌≡◌ {A = OpenSlots} (record { mask = o.mask; count = o.count }) (record { mask = 0; count = 0 }) = cc in
+            ap Ok same
+        go (Err e) means = absurd means
 
     -- the state of each of its slots is "cancelled";
-    pub cancelled_state : (t : ℕ) → t < get_or L.board.counts c 0 → (given : SlotState) → StatePromise s c t given → given ≡ state.Cancelled
+    pub cancelled_state : (t : ℕ) → t < get_or L.board.counts c 0 → (given : Result SlotState Refusal) → StatePromise s c t given → given ≡ Ok state.Cancelled
     cancelled_state t lt given promise =
         go given
         ((promise.answered L shape rep).means (rw (lent_passes, board_passes, call_passes, lt-leb (get_or L.board.counts c 0) t lt) refl))
       where
-        go : (a : SlotState) → StateMeans L.board c t a → a ≡ state.Cancelled
-        go state.Open means = absurd (never_viable t means)
-        go (state.Struck n) means = absurd (cancelled_off L.board shape.board rep.stored c t g means.0)
-        go state.Cancelled means = refl
-        go (state.Refused n) means = absurd means
+        go : (a : Result SlotState Refusal) → StateMeans L.board c t a → a ≡ Ok state.Cancelled
+        go (Ok state.Open) means = absurd (never_viable t means)
+        go (Ok (state.Struck n)) means = absurd (cancelled_off L.board shape.board rep.stored c t g means.0)
+        go (Ok state.Cancelled) means = refl
+        go (Err e) means = absurd means
 
   -- and in its column the support is "none", once the checks are passed
-  pub cancelled_support : (p k t : ℕ) → Cancelled L.board (call_at (rule_at L.board p) k) → (given : Support) → SupportPromise s p k t given
-      → first_of (support_conditions L (lent_of s) p k t) ≡ 0 → given ≡ support.Nothing
+  pub cancelled_support : (p k t : ℕ) → Cancelled L.board (call_at (rule_at L.board p) k) → (given : Result (Option ℕ) Refusal) → SupportPromise s p k t given
+      → first_of (support_conditions L (lent_of s) p k t) ≡ 0 → given ≡ Ok None
   cancelled_support p k t g given promise passed = go given ((promise.answered L shape rep).means passed)
     where
-      go : (a : Support) → SupportMeans L.board (rule_at L.board p) k t a → a ≡ support.Nothing
-      go (support.Row w) means =
+      go : (a : Result (Option ℕ) Refusal) → SupportMeans L.board (rule_at L.board p) k t a → a ≡ Ok None
+      go (Ok (Some w)) means =
           absurd
           (live_not L.board (call_at (rule_at L.board p) k)
           (active_live L.board (rule_at L.board p) k means.supporting.active) g)
-      go support.Nothing means = refl
-      go (support.Refused n) means = absurd means
+      go (Ok None) means = refl
+      go (Err e) means = absurd means

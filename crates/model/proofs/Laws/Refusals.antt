@@ -1,32 +1,102 @@
--- ALL LAWS ABOUT THE FIRST CONDITION THAT HOLDS, over any list: a condition is read by its number and never by its place. Assumes nothing.
-use Rattle.std.specs.Prelude.{◌≡◌, refl, Bool, true, false, ◌&&◌, cond, List, [], ◌∷◌, ◌++◌, ◌≢◌, ℕ, zero, suc, T, eqb}
+-- ALL LAWS ABOUT THE FIRST CONDITION THAT HOLDS, over any list: a condition is read by its number and never by its place; and about answers by their numbers. Assumes nothing.
+use Rattle.std.specs.Prelude.{◌≡◌, refl, Bool, true, false, ◌&&◌, cond, List, [], ◌∷◌, ◌++◌, ℕ, zero, suc, T, eqb, get_or, Result, Ok, Err}
 use Rattle.std.proofs.Common.{sym, ap, ◌∙◌, arith}
-use Rattle.model.specs.Refusals.{first_of, condition_of, is_refusal, numbered, or_else, chain}
+use Rattle.model.specs.declared.refusal.Refusal.{Refusal}
+use Rattle.model.specs.declared.refusal.Refusal.TheVariants as kind
+use Rattle.model.specs.Promise.{values_at}
+use Rattle.model.specs.Refusals.{number, first_of, condition_of, is_refusal, numbered, number_of, Checked, AnsweredBy}
 
--- a refusal stands
-pub stands : (n : ℕ) (holds : Bool) (number : ℕ) → (n ≡ 0 → ⊥) → n ≡ or_else n holds number
-stands zero holds number ne = absurd (ne refl)
-stands (suc n) holds number ne = refl
+-- EVERY REFUSAL HAS A NUMBER OF ITS OWN, and none is 0
+number_some : (e : Refusal) → is_refusal (number e) ≡ true
+number_some kind.BufferLength = refl
+number_some kind.FileLength = refl
+number_some kind.UnknownKind = refl
+number_some kind.BodyLength = refl
+number_some kind.BadCounts = refl
+number_some kind.NoBoard = refl
+number_some kind.BadNumber = refl
+number_some kind.BadArity = refl
+number_some kind.CallOffBoard = refl
+number_some kind.CallTwice = refl
+number_some kind.SpareField = refl
+number_some kind.NoDraft = refl
+number_some kind.DraftFull = refl
+number_some kind.SlotOffCall = refl
+number_some kind.RowTwice = refl
+number_some kind.InForce = refl
+number_some kind.NotInForce = refl
+number_some kind.NoCall = refl
+number_some kind.NoSlot = refl
+number_some kind.NoRow = refl
+number_some kind.NoColumn = refl
+number_some kind.TableLength = refl
+number_some kind.BadForm = refl
+number_some kind.BadGap = refl
+number_some kind.TooManyPairs = refl
+number_some kind.BadName = refl
+number_some kind.NothingKept = refl
+number_some kind.AlreadyCancelled = refl
+number_some kind.CancelledCall = refl
+number_some kind.PlanLength = refl
+number_some kind.BadPlanByte = refl
 
-chain_refused : (n : ℕ) (xs : List (Bool × ℕ)) → chain (suc n) xs ≡ suc n
-chain_refused n [] = refl
-chain_refused n (x ∷ xs) = chain_refused n xs
+pub number_not_zero : (e : Refusal) → number e ≡ 0 → ⊥
+number_not_zero e z = let d : true ≡ false = sym (number_some e) ∙ ap is_refusal z in cc
 
--- THE CHAIN GIVES THE FIRST that holds
-pub chain_first : (xs : List (Bool × ℕ)) → T (numbered xs) → chain 0 xs ≡ first_of xs
-chain_first [] t = refl
-chain_first (x ∷ xs) t = go x.0 x.1 t (λ t. chain_first xs t)
-  where
-    go : (b : Bool) (k : ℕ) → T (is_refusal k && numbered xs) → (T (numbered xs) → chain 0 xs ≡ first_of xs) → chain (cond b k 0) xs ≡ cond b k (first_of xs)
-    go true zero t ih = absurd t
-    go true (suc k) t ih = chain_refused k xs
-    go false zero t ih = absurd t
-    go false (suc k) t ih = ih t
+with_number : ℕ → Refusal
+with_number n =
+    get_or
+    (kind.BufferLength ∷ kind.BufferLength ∷ kind.FileLength ∷ kind.UnknownKind ∷ kind.BodyLength ∷ kind.BadCounts ∷ kind.NoBoard ∷ kind.BadNumber ∷ kind.BadArity ∷ kind.CallOffBoard ∷ kind.CallTwice ∷ kind.SpareField ∷ kind.NoDraft ∷ kind.DraftFull ∷ kind.SlotOffCall ∷ kind.RowTwice ∷ kind.InForce ∷ kind.NotInForce ∷ kind.NoCall ∷ kind.NoSlot ∷ kind.NoRow ∷ kind.NoColumn ∷ kind.TableLength ∷ kind.BadForm ∷ kind.BadGap ∷ kind.TooManyPairs ∷ kind.BadName ∷ kind.NothingKept ∷ kind.AlreadyCancelled ∷ kind.CancelledCall ∷ kind.BufferLength ∷ kind.BufferLength ∷ kind.PlanLength ∷ kind.BadPlanByte ∷ [])
+    n kind.BufferLength
 
--- a chain may be gone through in two parts
-pub chain_append : (n : ℕ) (xs ys : List (Bool × ℕ)) → chain n (xs ++ ys) ≡ chain (chain n xs) ys
-chain_append n [] ys = refl
-chain_append n (x ∷ xs) ys = chain_append (or_else n x.0 x.1) xs ys
+with_own_number : (e : Refusal) → with_number (number e) ≡ e
+unfolding with_number
+with_own_number kind.BufferLength = refl
+with_own_number kind.FileLength = refl
+with_own_number kind.UnknownKind = refl
+with_own_number kind.BodyLength = refl
+with_own_number kind.BadCounts = refl
+with_own_number kind.NoBoard = refl
+with_own_number kind.BadNumber = refl
+with_own_number kind.BadArity = refl
+with_own_number kind.CallOffBoard = refl
+with_own_number kind.CallTwice = refl
+with_own_number kind.SpareField = refl
+with_own_number kind.NoDraft = refl
+with_own_number kind.DraftFull = refl
+with_own_number kind.SlotOffCall = refl
+with_own_number kind.RowTwice = refl
+with_own_number kind.InForce = refl
+with_own_number kind.NotInForce = refl
+with_own_number kind.NoCall = refl
+with_own_number kind.NoSlot = refl
+with_own_number kind.NoRow = refl
+with_own_number kind.NoColumn = refl
+with_own_number kind.TableLength = refl
+with_own_number kind.BadForm = refl
+with_own_number kind.BadGap = refl
+with_own_number kind.TooManyPairs = refl
+with_own_number kind.BadName = refl
+with_own_number kind.NothingKept = refl
+with_own_number kind.AlreadyCancelled = refl
+with_own_number kind.CancelledCall = refl
+with_own_number kind.PlanLength = refl
+with_own_number kind.BadPlanByte = refl
+
+pub number_own : (e f : Refusal) → number e ≡ number f → e ≡ f
+number_own e f same = sym (with_own_number e) ∙ ap with_number same ∙ with_own_number f
+
+-- A CHECK THAT IS PASSED leaves the rest of the list, and one that is not decides it
+pub check_passed : (e : Refusal) (holds : Bool) (r : Result (Unit {0}) Refusal) (xs : List (Bool × ℕ)) → Checked e holds r → number_of r ≡ 0 → first_of ((holds, number e) ∷ xs) ≡ first_of xs
+check_passed e holds (Ok u) xs c z = rw c refl
+check_passed e holds (Err f) xs c z = absurd (number_not_zero f z)
+
+pub check_failed : (e : Refusal) (holds : Bool) (f : Refusal) (xs : List (Bool × ℕ)) → Checked e holds (Err f) → number f ≡ first_of ((holds, number e) ∷ xs)
+check_failed e holds f xs c = rw (c.0, c.1) refl
+
+pub check_last : (e : Refusal) (holds : Bool) (r : Result (Unit {0}) Refusal) → Checked e holds r → number_of r ≡ first_of ((holds, number e) ∷ [])
+check_last e holds (Ok u) c = rw c refl
+check_last e holds (Err f) c = check_failed e holds f [] c
 
 -- WHERE NOTHING IS REFUSED no condition holds, whatever its number
 pub none_holds : (xs : List (Bool × ℕ)) → T (numbered xs) → first_of xs ≡ 0 → (n : ℕ) → condition_of n xs ≡ false
@@ -80,10 +150,20 @@ agree_first (next {b} {c} {n} {xs} {ys} same rest) = rw same (go c (λ e. agree_
     go true ih = refl
     go false ih = ih refl
 
--- AN ANSWER BY A NUMBER that is not 0 is the refusal
-pub refused_by : {A : Type 0} (refused by : ℕ → A) → ((n : ℕ) → refused (suc n) ≡ by (suc n)) → {n m : ℕ} → n ≡ m → n ≢ 0 → refused n ≡ by m
-refused_by refused by same {n} e r = go n r ∙ ap by e
-  where
-    go : (n : ℕ) → n ≢ 0 → refused n ≡ by n
-    go zero r = absurd (r refl)
-    go (suc n) r = same n
+-- AN ANSWER BY A NUMBER has that number; where it is 0 it is what was to be answered; and its values go with the number
+pub answered_number : {A : Type 0} (n : ℕ) (a : A) (given : Result A Refusal) → AnsweredBy n a given → number_of given ≡ n
+answered_number n a (Ok b) h = sym h.0
+answered_number n a (Err e) h = h
+
+pub answered_with : {A : Type 0} (n : ℕ) (a : A) (given : Result A Refusal) → AnsweredBy n a given → n ≡ 0 → given ≡ Ok a
+answered_with n a (Ok b) h z = ap Ok h.1
+answered_with n a (Err e) h z = absurd (number_not_zero e (h ∙ z))
+
+pub no_values : (n : ℕ) (vs : List ℕ) → (n ≡ 0 → ⊥) → values_at n vs ≡ []
+no_values zero vs ne = absurd (ne refl)
+no_values (suc n) vs ne = refl
+
+pub answered_values : {A : Type 0} (values : Result A Refusal → List ℕ) → ((e : Refusal) → values (Err e) ≡ []) → (n : ℕ) (a : A) (given : Result A Refusal) → AnsweredBy n a given
+    → values given ≡ values_at n (values (Ok a))
+answered_values values nothing n a (Ok b) h = rw (h.0, h.1) refl
+answered_values values nothing n a (Err e) h = nothing e ∙ sym (no_values n (values (Ok a)) (λ z. number_not_zero e (h ∙ z)))

@@ -25,6 +25,7 @@ use Rattle.layout.specs.Sizes.{Lent, CommandLent, bad_lent?, bad_buffers?, bad_t
 use Rattle.tables.specs.Laws.Facts.{true_false}
 use Rattle.model.specs.Refusals.{first_of, condition_of}
 use Rattle.model.specs.Numbers as refused
+use Rattle.model.specs.declared.refusal.Refusal.TheVariants as kind_of_refusal
 use Rattle.model.proofs.Laws.Refusals.{none_holds, rest_passes}
 
 -- the lengths, where they are not refused
@@ -334,8 +335,8 @@ counts_most s at = go (leb (length s) at) (is_kind (get_or s at 0)) (leb (at + 1
         (cond b
         (cond c
         (record { read = found.Command (command_at s (get_or s at 0) (at + 1)); counts = cond d (take 32 (drop (at + 1) s)) (replicate 32 0); next = at + 1 + body_size (get_or s at 0) })
-        (without (found.Refused (get_or s at 0) refused.body_length) at))
-        (without (found.Refused (get_or s at 0) refused.unknown_kind) at))).counts ≤ 32
+        (without (found.Refused (get_or s at 0) kind_of_refusal.BodyLength) at))
+        (without (found.Refused (get_or s at 0) kind_of_refusal.UnknownKind) at))).counts ≤ 32
     go true b c d = omega arith
     go false true true d = taken d
     go false true false d = omega arith

@@ -2,7 +2,7 @@
 -- answer after a sample's commands meet both the promise and the wrong behaviour. Assumes nothing.
 use Rattle.std.proofs.Math.Path.{◌≡◌, refl, sym, ap}
 use Rattle.std.proofs.Common.{subst, ◌∙◌, true≢false, inl, inr, ⊎_elim, eqb→eq, ltb→lt, lt→ltb, T_not, ne_eqb}
-use Rattle.std.specs.Prelude.{Bool, true, false, not, ◌&&◌, ◌||◌, ◌≢◌, ◌⊎◌, length, T, eqb, ltb}
+use Rattle.std.specs.Prelude.{Bool, true, false, not, ◌&&◌, ◌||◌, ◌≢◌, ◌⊎◌, length, T, eqb, ltb, None, Result, Ok, Err}
 use mathlib.Core.List.{List, [], ◌∷◌, map}
 use Rattle.std.proofs.Math.Option.{Option, none, some}
 use Prim.Native.Nat.{ℕ, zero, suc, ◌+◌, ◌≤◌, ◌<◌}
@@ -10,10 +10,8 @@ use native.Mathlib.Omega.{arith}
 use Rattle.std.proofs.Math.ListN.{get_or}
 use Rattle.std.proofs.Math.Dec.{lit<, not_T}
 use Rattle.model.specs.declared.answer.Report.{Report}
-use Rattle.model.specs.declared.answer.Answer.{Answer}
-use Rattle.model.specs.declared.answer.Answer.TheVariants as answer
+use Rattle.model.specs.declared.refusal.Refusal.{Refusal}
 use Rattle.model.specs.declared.answer.OpenSlots.{OpenSlots}
-use Rattle.model.specs.declared.answer.Support.TheVariants as support
 use Rattle.model.specs.Board.{Rule, Board, call_at, slot_at, OnBoard, InForce, active?, Active, Holds, Passing, Viable}
 use Rattle.model.specs.Records.{Struck, Grounded, because}
 use Rattle.model.specs.Changes.{CauseIs, ClosedFor}
@@ -24,7 +22,7 @@ use Rattle.model.specs.Ledger.{Ledger, LedgerShape, with_rule, refusal, obey, st
 use Rattle.model.specs.Report.{slot_count, open?, closed?, reopened_between, struck_beside, RetractTouched}
 use Rattle.model.specs.Representation.{Stored, Represents, rule_or, rule_at}
 use Rattle.model.specs.Summary.{rule_on?, record_of, Current}
-use Rattle.model.specs.Promise.{Answered, ReportsOf, values_at, report_values}
+use Rattle.model.specs.Promise.{Answer, Answered, ReportsOf, values_at, report_values}
 use Rattle.model.specs.Questions.{mask_of, call_conditions, slots_values, SlotsPromise, support_conditions, SupportPromise}
 use Rattle.model.specs.Samples.{Outcome, Sample, Right, retract_bytes, ledger_before, ledger_last, p1, p2, p3, p4_retract, p5, p6, c1}
 use Rattle.model.proofs.Laws.Tests.{and→, →and, or→, every→}
@@ -188,7 +186,7 @@ module _ (x : Sample) (s : Whole) (given : Answer) (s' : Whole) (last : Last x s
   refusal_is : Right x → refusal (ledger_before x) (lent_with s) x.last ≡ x.outcome.refused
   refusal_is right = ap (λ (l : CommandLent). refusal (ledger_before x) l x.last) lent ∙ ap (λ (o : Outcome). o.refused) right.outcome
 
-  accepted_is : Right x → x.outcome.refused ≡ 0 → given ≡ answer.Accepted answered.report
+  accepted_is : Right x → x.outcome.refused ≡ 0 → given ≡ Ok answered.report
   accepted_is right accepted =
       accepted_by given answered.report (answered.values ∙ ap (λ (n : ℕ). values_at n (report_values answered.report)) (refusal_is right ∙ accepted))
 
@@ -223,7 +221,7 @@ module _ (x : Sample) (s : Whole) (given : Answer) (s' : Whole) (last : Last x s
 
   -- a value of which the report of what was read says n is n in the answer
   told : (value : Report → ℕ) (n : ℕ) → ((r : Report) → ReportsOf (ledger_before x).board (read_at x.last 0).read s.marked.state s'.marked.state r → value r ≡ n) → Right x → x.outcome.refused ≡ 0
-      → (r : Report) → given ≡ answer.Accepted r → value r ≡ n
+      → (r : Report) → given ≡ Ok r → value r ≡ n
   told value n says right accepted r e =
       let d = accepted_is right accepted in
       let q : answered.report ≡ r = cc in
@@ -250,8 +248,8 @@ right_c1 = samples_right.1.1.1.1.1.1.1.1.1.1.1.1.1.1.0
 
 module _ (s : Whole) (given : Answer) (s' : Whole) where
   -- A BOARD THAT REFUSES ALL COMMANDS
-  pub not_refusing : Last p1 s given s' → (n : ℕ) → given ≡ answer.Refused n → ⊥
-  not_refusing last n e =
+  pub not_refusing : Last p1 s given s' → (e : Refusal) → given ≡ Err e → ⊥
+  not_refusing last f e =
       let d = accepted_is p1 s given s' last right_p1 refl in
       let z : ◌≡◌ {A = ℕ} 0 1 = cc in
       omega arith
@@ -265,7 +263,7 @@ module _ (s : Whole) (given : Answer) (s' : Whole) where
   not_striking_none last all = closes p1 s given s' last right_p1 0 2 (lit< tt) (lit< tt) tt (all 0 2 (lit< tt))
 
   -- ONE THAT ALWAYS SHOWS ONE MASK: after P5 the two calls differ
-  pub not_one_mask : Last p5 s given s' → (shown : OpenSlots) → SlotsPromise s'.marked.state 0 shown → SlotsPromise s'.marked.state 1 shown → ⊥
+  pub not_one_mask : Last p5 s given s' → (shown : Result OpenSlots Refusal) → SlotsPromise s'.marked.state 0 shown → SlotsPromise s'.marked.state 1 shown → ⊥
   unfolding active?
   not_one_mask last shown m m' =
       let L = ledger_last p5 in
@@ -305,14 +303,14 @@ module _ (s : Whole) (given : Answer) (s' : Whole) where
       (sound.grounded 0 2 h) (sound.grounded 2 1 h') (one 0 2 h ∙ sym (one 2 1 h'))
 
   -- ONE THAT INVENTS S, AND ONE THAT INVENTS R
-  pub not_inventing_struck : Last p1 s given s' → (r : Report) → given ≡ answer.Accepted r → r.struck ≢ 2 → ⊥
+  pub not_inventing_struck : Last p1 s given s' → (r : Report) → given ≡ Ok r → r.struck ≢ 2 → ⊥
   not_inventing_struck last r e wrong =
       wrong (told p1 s given s' last (λ r. r.struck) 2
       (λ r w. w.struck ∙ struck_between_lem (ledger_before p1) (ledger_last p1) s.marked.state s'.marked.state (is p1 s given s' last).1.state (after p1 s given s' last)
       ∙ ap (λ (o : Outcome). o.struck) right_p1.outcome)
       right_p1 refl r e)
 
-  pub not_inventing_reopened : Last p3 s given s' → (r : Report) → given ≡ answer.Accepted r → r.reopened ≢ 4 → ⊥
+  pub not_inventing_reopened : Last p3 s given s' → (r : Report) → given ≡ Ok r → r.reopened ≢ 4 → ⊥
   not_inventing_reopened last r e wrong =
       wrong (told p3 s given s' last (λ r. r.reopened) 4
       (λ r w. w.reopened ∙ reopened_between_lem (ledger_before p3) (ledger_last p3) s.marked.state s'.marked.state (is p3 s given s' last).1.state (after p3 s given s' last)
@@ -320,7 +318,7 @@ module _ (s : Whole) (given : Answer) (s' : Whole) where
       right_p3 refl r e)
 
   -- ONE WHOSE T IS LOOSE: before P3's lift five slots are struck, and one of them stands in no row of its cause
-  pub not_loose_touched : Last p3 s given s' → (r : Report) → given ≡ answer.Accepted r → r.touched ≢ 4 → ⊥
+  pub not_loose_touched : Last p3 s given s' → (r : Report) → given ≡ Ok r → r.touched ≢ 4 → ⊥
   unfolding active?
   not_loose_touched last r e wrong =
       wrong (told p3 s given s' last (λ r. r.touched) 4
@@ -338,7 +336,7 @@ module _ (s : Whole) (given : Answer) (s' : Whole) where
       between back t e l m = omega arith
 
   -- ONE THAT COUNTS THE CANCELLED CALL'S OWN SLOTS IN T: before C1 three slots of other calls were struck
-  pub not_own_touched : Last c1 s given s' → (r : Report) → given ≡ answer.Accepted r → 3 < r.touched → ⊥
+  pub not_own_touched : Last c1 s given s' → (r : Report) → given ≡ Ok r → 3 < r.touched → ⊥
   unfolding active?
   not_own_touched last r e more =
       let d = accepted_is c1 s given s' last right_c1 refl in
@@ -354,7 +352,7 @@ module _ (s : Whole) (given : Answer) (s' : Whole) where
       three = refl
 
   -- ONE THAT SAYS "NONE" WITH A LIVING ROW THERE: row 0 of P1's rule holds slot 0 in column 0
-  pub not_none_with_support : Last p1 s given s' → SupportPromise s'.marked.state 0 0 0 support.Nothing → ⊥
+  pub not_none_with_support : Last p1 s given s' → SupportPromise s'.marked.state 0 0 0 (Ok None) → ⊥
   unfolding active?
   not_none_with_support last m =
       let L = ledger_last p1 in

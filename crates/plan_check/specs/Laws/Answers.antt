@@ -1,46 +1,51 @@
--- WHAT THE QUESTION'S FUNCTION SHOWS of its answer, to meet its promise: where the number n of its checks is not 0 the answer is that refusal, and where n is 0 the buffers
--- and the plan have their lengths, and the answer is the lowest broken rule. Assumes nothing.
-use Rattle.std.specs.Prelude.{◌≡◌, refl, Bool, true, List, ◌≢◌, ℕ, ◌<◌, ◌≤◌, length, eqb}
-use Rattle.std.proofs.Math.Path.{sym}
-use Rattle.std.proofs.Common.{subst, ◌∙◌, lt-ltb, le-ltb, eqb-true}
-use native.Mathlib.Omega.{arith}
-use Rattle.std.proofs.lemmas.Bool.{not-false}
-use Rattle.layout.specs.Memory.{State, lent_of}
-use Rattle.layout.specs.Sizes.{rows_length}
+-- WHAT THE QUESTION'S FUNCTION SHOWS of its answer, to meet its promise: the first of its checks that holds is the refusal, and where none does the answer is the lowest
+-- broken rule. Assumes nothing.
+use Rattle.std.specs.Prelude.{◌≡◌, refl, Bool, true, false, List, ◌≢◌, ℕ, ◌<◌, ◌≤◌, length, get_or, Option, Some, None, Ok, Err}
+use Rattle.std.proofs.Common.{sym, ◌∙◌, arith, lt-ltb, ne_eqb}
+use Rattle.layout.specs.Memory.{State}
+use Rattle.layout.specs.Sizes.{rows_length, killers_length, slots_length}
 use Rattle.model.specs.Tests.{some?}
-use Rattle.model.specs.Refusals.{first_of}
-use Rattle.model.specs.Numbers as refused
-use Rattle.model.proofs.Laws.Refusals.{none_holds, refused_by}
-use Rattle.model.proofs.Laws.Shapes.{lent_sizes}
+use Rattle.model.specs.Refusals.{number, first_of}
 use Rattle.model.proofs.Laws.Tests.{→T}
 use Rattle.model.proofs.Laws.Search.{NoneBelow}
 use Rattle.model.proofs.Laws.Questions.{first_found, first_none}
-use Rattle.plan_model.specs.declared.answer.PlanCheck.TheVariants as plan
-use Rattle.plan_model.specs.Plans.{plan_size, slot_in, RulesRead, rules_in, breaks?, lowest_broken}
-use Rattle.plan_model.specs.Check.{wrong_byte?, wrong_plan?, plan_checks, plan_by, PlanPromise}
+use Rattle.model.specs.declared.refusal.Refusal.{Refusal}
+use Rattle.model.specs.declared.refusal.Refusal.TheVariants as refused
+use Rattle.plan_model.specs.Plans.{plan_size, slot_in, slots_on_in, RulesRead, rules_in, breaks?, lowest_broken}
+use Rattle.plan_model.specs.Check.{broken_answer, wrong_byte?, wrong_plan?, plan_checks, PlanPromise}
 use Rattle.plan_model.proofs.Laws.Check.{plan_promise}
 
-module _ (s : State) (bytes : List ℕ) {n : ℕ} (e : n ≡ first_of (plan_checks s bytes)) where
-  pub plan_refused : n ≢ 0 → PlanPromise s bytes (plan.Refused n)
-  plan_refused r = rw (refused_by plan.Refused (λ n. plan_by n (lowest_broken (rules_in s) bytes)) (λ n. refl) e r) (plan_promise s bytes)
+module _ (s : State) (bytes : List ℕ) where
+  refused_under : (f : Refusal) → number f ≡ first_of (plan_checks s bytes) → PlanPromise s bytes (Err f)
+  refused_under f e = plan_promise s bytes (Err f) e
 
-  -- THE LENGTHS behind checks that refuse nothing
-  pub rows_size : n ≡ 0 → length s.rows ≡ rows_length
-  rows_size z = (lent_sizes (lent_of s) (none_holds (plan_checks s bytes) tt (sym e ∙ z) refused.buffer_length)).0
+  -- A BUFFER is not as long as it has to be
+  pub rows_refused : length s.rows ≢ rows_length → PlanPromise s bytes (Err refused.BufferLength)
+  rows_refused n = refused_under refused.BufferLength (rw (ne_eqb (length s.rows) rows_length n) refl)
 
-  pub plan_size_lem : n ≡ 0 → length bytes ≡ plan_size
-  plan_size_lem z = eqb-true (length bytes) plan_size (not-false (eqb (length bytes) plan_size) (none_holds (plan_checks s bytes) tt (sym e ∙ z) refused.plan_length))
+  pub killers_refused : length s.rows ≡ rows_length → length s.killers ≢ killers_length → PlanPromise s bytes (Err refused.BufferLength)
+  killers_refused r n = refused_under refused.BufferLength (rw (r, ne_eqb (length s.killers) killers_length n) refl)
 
-  -- THE ANSWER by the lowest broken rule
-  module _ (z : n ≡ 0) {p : ℕ} (is : p ≡ lowest_broken (rules_in s) bytes) where
-    answered : PlanPromise s bytes (plan_by 0 p)
-    answered = rw is (subst (λ (n : ℕ). PlanPromise s bytes (plan_by n (lowest_broken (rules_in s) bytes))) (sym e ∙ z) (plan_promise s bytes))
+  pub slots_refused : length s.rows ≡ rows_length → length s.killers ≡ killers_length → length s.slots ≢ slots_length → PlanPromise s bytes (Err refused.BufferLength)
+  slots_refused r k n = refused_under refused.BufferLength (rw (r, k, ne_eqb (length s.slots) slots_length n) refl)
 
-    pub plan_broken : p < 64 → PlanPromise s bytes (plan.Broken p)
-    plan_broken h = rw (lt-ltb p 64 h) at answered
+  -- or each is
+  module _ (r : length s.rows ≡ rows_length) (k : length s.killers ≡ killers_length) (l : length s.slots ≡ slots_length) where
+    pub length_refused : length bytes ≢ plan_size → PlanPromise s bytes (Err refused.PlanLength)
+    length_refused n = refused_under refused.PlanLength (rw (r, k, l, ne_eqb (length bytes) plan_size n) refl)
 
-    pub plan_kept : 64 ≤ p → PlanPromise s bytes plan.Kept
-    plan_kept h = rw (le-ltb p 64 h) at answered
+    module _ (z : length bytes ≡ plan_size) where
+      pub board_refused : get_or s.value.heads.counts 0 0 ≡ 0 → PlanPromise s bytes (Err refused.NoBoard)
+      board_refused e = refused_under refused.NoBoard (rw (r, k, l, z, e) refl)
+
+      module _ (n : get_or s.value.heads.counts 0 0 ≢ 0) {wrong : Bool} (is : wrong ≡ wrong_plan? (slots_on_in s) bytes) where
+        pub byte_refused : wrong ≡ true → PlanPromise s bytes (Err refused.BadPlanByte)
+        byte_refused e = refused_under refused.BadPlanByte (rw (r, k, l, z, ne_eqb (get_or s.value.heads.counts 0 0) 0 n, sym is ∙ e) refl)
+
+        -- THE ANSWER is the lowest broken rule, where nothing is refused
+        pub plan_given : wrong ≡ false → {found : Option ℕ} → found ≡ broken_answer (lowest_broken (rules_in s) bytes) → PlanPromise s bytes (Ok found)
+        plan_given right {found} lowest =
+            plan_promise s bytes (Ok found) (rw (r, k, l, z, ne_eqb (get_or s.value.heads.counts 0 0) 0 n, sym is ∙ right) refl, lowest)
 
 -- THE LOOP OVER THE BYTES, when it is through
 module _ (held : ℕ → ℕ) (bytes : List ℕ) where
@@ -53,10 +58,10 @@ module _ (held : ℕ → ℕ) (bytes : List ℕ) where
 
 -- THE LOOP OVER THE RULES: the first that is broken, or none
 module _ (R : RulesRead) (bytes : List ℕ) {p : ℕ} (none : NoneBelow (breaks? R bytes) p) where
-  pub lowest_found : p < 64 → true ≡ breaks? R bytes p → p ≡ lowest_broken R bytes
+  pub lowest_found : p < 64 → true ≡ breaks? R bytes p → Some p ≡ broken_answer (lowest_broken R bytes)
   unfolding lowest_broken
-  lowest_found h e = sym (first_found 64 (breaks? R bytes) p h (→T (breaks? R bytes p) (sym e)) none.none)
+  lowest_found h e = rw (first_found 64 (breaks? R bytes) p h (→T (breaks? R bytes p) (sym e)) none.none, lt-ltb p 64 h) refl
 
-  pub lowest_none : p ≤ 64 → 64 ≤ p → 64 ≡ lowest_broken R bytes
+  pub lowest_none : p ≤ 64 → 64 ≤ p → None ≡ broken_answer (lowest_broken R bytes)
   unfolding lowest_broken
-  lowest_none h k = let all : p ≡ 64 = omega arith in sym (first_none 64 (breaks? R bytes) (rw all at none.none))
+  lowest_none h k = let all : p ≡ 64 = omega arith in rw (first_none 64 (breaks? R bytes) (rw all at none.none)) refl

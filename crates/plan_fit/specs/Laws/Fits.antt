@@ -10,6 +10,7 @@ use Rattle.std.proofs.Math.Dec.{eqb, eqb→eq}
 use Rattle.std.specs.Int.Bits.{bit_and}
 use Rattle.tables.specs.Laws.Facts.{true_false, true_or_false, any_default}
 use Rattle.layout.specs.Places.{columns_of, call_of, cancelled?, row_start}
+use Rattle.layout.specs.declared.value.Heads.{Heads}
 use Rattle.layout.specs.Memory.{State}
 use Rattle.masks.specs.Columns.{word_at}
 use Rattle.model.specs.Tests.{some?}
@@ -20,18 +21,18 @@ use Rattle.plan_fit.specs.Words.{column_call, ColumnCalls, mask_byte, plan_byte,
 use Rattle.plan_fit.specs.Laws.Words.{word_of, Bytes, masked_by, byte_small, same_bytes, same_word, and_word}
 
 -- THE CALL OF A COLUMN, as the code finds it: past the columns, of a cancelled call, or one that counts
-module _ (arity scope slots : List ℕ) (p k : ℕ) {n : ℕ} (columns : n ≡ columns_of arity p) where
-  pub call_past : n ≤ k → 255 ≡ column_call arity scope slots p k
+module _ (heads : Heads) (slots : List ℕ) (p k : ℕ) {n : ℕ} (columns : n ≡ columns_of heads.arity p) where
+  pub call_past : n ≤ k → 255 ≡ column_call heads slots p k
   unfolding column_call
-  call_past h = rw (le-ltb k (columns_of arity p) (omega arith)) refl
+  call_past h = rw (le-ltb k (columns_of heads.arity p) (omega arith)) refl
 
-  pub call_off : k < n → true ≡ cancelled? slots (call_of scope p k) → 255 ≡ column_call arity scope slots p k
+  pub call_off : k < n → true ≡ cancelled? slots (call_of heads.scope p k) → 255 ≡ column_call heads slots p k
   unfolding column_call
-  call_off h off = rw (lt-ltb k (columns_of arity p) (omega arith), ← off) refl
+  call_off h off = rw (lt-ltb k (columns_of heads.arity p) (omega arith), ← off) refl
 
-  pub call_here : k < n → false ≡ cancelled? slots (call_of scope p k) → call_of scope p k ≡ column_call arity scope slots p k
+  pub call_here : k < n → false ≡ cancelled? slots (call_of heads.scope p k) → call_of heads.scope p k ≡ column_call heads slots p k
   unfolding column_call
-  call_here h off = rw (lt-ltb k (columns_of arity p) (omega arith), ← off) refl
+  call_here h off = rw (lt-ltb k (columns_of heads.arity p) (omega arith), ← off) refl
 
 -- A NUMBER THAT IS NOT IN FORCE is not broken
 pub no_rule_broken : (s : State) (plan : List ℕ) (p : ℕ) → get_or s.value.heads.arity p 0 ≡ 0 → false ≡ breaks? (rules_in s) plan p
@@ -40,7 +41,7 @@ no_rule_broken s plan p e = rw e refl
 
 -- ONE RULE of a state, with the words that the code makes of its columns and of the plan
 module _ (s : State) (plan : List ℕ) (size : length plan ≡ plan_size) (p : ℕ) {calls : List ℕ}
-    (columns : ColumnCalls s.value.heads.arity s.value.heads.scope s.slots p calls) {mask : ℕ} (masked : IsWord calls mask_byte mask) where
+    (columns : ColumnCalls s.value.heads s.slots p calls) {mask : ℕ} (masked : IsWord calls mask_byte mask) where
   abbrev R : RulesRead
   R = rules_in s
 

@@ -1,10 +1,9 @@
 -- WORDS OF FOUR BYTES: two of them are equal where their bytes are, and a mask of whole bytes keeps some of these and clears the others. Assumes nothing.
-use Rattle.std.specs.Prelude.{◌≡◌, Bool, true, false, cond, List, ℕ, ◌+◌, ◌*◌, ◌^◌, ◌<◌, ◌≤◌, get_or, ltb}
-use Rattle.std.proofs.Common.{sym, ap, ap₂, ◌∙◌, arith, lt-ltb, le-ltb}
+use Rattle.std.specs.Prelude.{◌≡◌, Bool, true, false, cond, ℕ, ◌+◌, ◌*◌, ◌^◌, ◌<◌}
+use Rattle.std.proofs.Common.{ap, ap₂, ◌∙◌, arith}
 use Rattle.std.specs.Int.Bits.{bit_and, and_zero_r}
 use Rattle.std.proofs.lemmas.Nat.{and_block, and_mask}
 use Rattle.masks.specs.Laws.Columns.{four}
-use Rattle.plan_fit.specs.Words.{IsByte, IsWord}
 
 -- the word of four bytes
 abbrev pub word_of : (ℕ → ℕ) → ℕ
@@ -61,20 +60,3 @@ and_word d m small = ap₂ bit_and (nested d) (nested whole) ∙ split ∙ omega
         ∙ ap (λ (x : ℕ). x * 2 ^ 8 + bit_and (d 0) (whole 0))
         (and_block 8 (d 3 * 2 ^ 8 + d 2) (whole 3 * 2 ^ 8 + whole 2) (d 1) (whole 1) (small 1 (omega arith)) (byte_small (m 1))
         ∙ ap (λ (x : ℕ). x * 2 ^ 8 + bit_and (d 1) (whole 1)) (and_block 8 (d 3) (whole 3) (d 2) (whole 2) (small 2 (omega arith)) (byte_small (m 2))))
-
--- THE BYTE OF A COLUMN: v where the column counts, else 0
-pub byte_here : {call v r : ℕ} → call < 32 → r ≡ v → r < 256 → IsByte (cond (ltb call 32) v 0) r
-byte_here {call} {v} h e small = record { is = e ∙ sym (ap (λ (b : Bool). cond b v 0) (lt-ltb call 32 h)); small = small }
-
-pub byte_none : (v : ℕ) {call : ℕ} → 32 ≤ call → IsByte (cond (ltb call 32) v 0) 0
-byte_none v {call} h = record { is = sym (ap (λ (b : Bool). cond b v 0) (le-ltb call 32 h)); small = omega arith }
-
--- and four of them make a word
-pub word_made : (calls : List ℕ) (byte : ℕ → ℕ) {a b c d : ℕ} → IsByte (byte (get_or calls 0 0)) a → IsByte (byte (get_or calls 1 0)) b
-    → IsByte (byte (get_or calls 2 0)) c → IsByte (byte (get_or calls 3 0)) d → IsWord calls byte (a + 256 * b + 65536 * c + 16777216 * d)
-word_made calls byte a b c d =
-    record {
-      is = omega (arith, a.is, b.is, c.is, d.is);
-      small = four (λ k. byte (get_or calls k 0) < 256) (omega (arith, a.is, a.small)) (omega (arith, b.is, b.small)) (omega (arith, c.is, c.small))
-          (omega (arith, d.is, d.small));
-    }

@@ -1,8 +1,22 @@
--- The refusal's number decides; behind it the search does.
-use Rattle.layout.specs.Memory.{state_of}
-use Rattle.plan_lay.specs.Laws.Answers.{first_given}
+-- The first check that holds decides; behind them the search does.
+use Rattle.layout.specs.Memory.{memory}
+use Rattle.plan_lay.specs.Laws.Answers.{killers_refused, slots_refused, board_refused, first_given}
 use Rattle.plan_lay.proofs.first_plan.Goals as goal
+
+pub returns-in_default : goal.returns-in_default
+returns-in_default c =
+    slots_refused (memory c.args.value c.args.rows.now c.args.killers.now c.args.slots.now) c.args.ceiling
+    c.in_default.ensures.cases.long c.in_default.ensures'.cases.long c.in_default.ensures''.cases
+
+pub returns-in_default-2 : goal.returns-in_default-2
+returns-in_default-2 c =
+    killers_refused (memory c.args.value c.args.rows.now c.args.killers.now c.args.slots.now) c.args.ceiling c.in_default.ensures.cases.long c.in_default.ensures'.cases
+
+pub returns-then-value-eq0 : goal.returns-then-value-eq0
+returns-then-value-eq0 c =
+    board_refused (memory c.args.value c.args.rows.now c.args.killers.now c.args.slots.now) c.args.ceiling c.in-Some-Some-Some.ensures.cases.long c.in-Some-Some-Some.ensures'.cases.long c.in-Some-Some-Some.ensures''.cases.long c.if-value-eq0.true
 
 pub returns : goal.returns
 returns c =
-    rw c.plan_answer.ensures (first_given (state_of c.args.value c.args.rows.now c.args.killers.now c.args.slots.now) c.args.ceiling c.board_refusal-refusal.ensures c.if-refusal-ne0.false c.lay_plan-laid.ensures)
+    first_given (memory c.args.value c.args.rows.now c.args.killers.now c.args.slots.now) c.args.ceiling c.in-Some-Some-Some.ensures.cases.long c.in-Some-Some-Some.ensures'.cases.long c.in-Some-Some-Some.ensures''.cases.long c.if-value-eq0.false
+    (rw (c.in-Some-Some-Some.ensures.cases.same, c.in-Some-Some-Some.ensures''.cases.same) at c.lay_plan.ensures)

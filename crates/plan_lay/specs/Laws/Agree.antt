@@ -1,18 +1,12 @@
 -- THE SEARCH BY THE TABLES IS THE SEARCH OFF THE MEMORY. A rule is looked at once, with its last call: the others that are due were due before, with the same slots.
 -- Assumes nothing.
-use Rattle.std.specs.Prelude.{◌≡◌, true, false, not, ◌||◌, ◌⊎◌, length, set, T}
-use Rattle.std.proofs.Math.Path.{refl, sym}
-use Rattle.std.proofs.Common.{◌∙◌, arith, eq-or-lt_of_le, length-set, get_or-set_same, get_or-set_other, eqb→eq, T_not, lt-ltb, le-ltb}
-use Rattle.std.proofs.Math.Bool.{Bool}
-use mathlib.Core.List.{List}
-use Rattle.std.proofs.Math.Logic.{inl, inr, ⊎_elim}
-use Prim.Native.Nat.{ℕ, suc, ◌+◌, ◌*◌, ◌<◌, ◌≤◌}
-use Rattle.std.proofs.Math.ListN.{get_or}
+use Rattle.std.specs.Prelude.{◌≡◌, refl, Bool, true, false, not, ◌||◌, List, ◌⊎◌, ℕ, suc, ◌+◌, ◌*◌, ◌<◌, ◌≤◌, length, get_or, set, eqb, T}
+use Rattle.std.proofs.Common.{sym, ap, ◌∙◌, inl, inr, ⊎_elim, arith, eq-or-lt_of_le, length-set, get_or-set_same, get_or-set_other, eqb→eq, T_not, lt-ltb, le-ltb}
+use Rattle.std.proofs.Math.Dec.{not_T}
 use Rattle.std.proofs.lemmas.List.{length-replicate}
-use Rattle.std.proofs.Math.Dec.{eqb, not_T}
 use Rattle.tables.specs.Masks.{bit_of}
 use Rattle.tables.specs.Laws.Facts.{true_false, true_or_false, eq_or_ne, lt_or_le, find_below, any_default}
-use Rattle.layout.specs.Places.{cause_of}
+use Rattle.layout.specs.Places.{cause_of, rows_of}
 use Rattle.layout.specs.Memory.{State}
 use Rattle.masks.specs.Laws.Columns.{four}
 use Rattle.model.specs.Board.{no_slot_given}
@@ -28,9 +22,10 @@ use Rattle.plan_search.specs.First.{no_plan, memory_task, search_all}
 use Rattle.plan_search.proofs.Laws.Search.{search_same}
 use Rattle.plan_search.proofs.Laws.Stays.{not_laid, slot_laid}
 use Rattle.plan_search.proofs.Laws.Full.{no_slot}
-use Rattle.plan_tables.specs.Lookup.{CallSlots, RuleColumns, columns_at, mask_by, RowWords}
-use Rattle.plan_tables.specs.Due.{rule_stage, DueRules}
-use Rattle.plan_lay.specs.Lay.{table_task, CallsOf, calls_from}
+use Rattle.plan_tables.specs.declared.lookup.Tables.{Tables}
+use Rattle.plan_tables.specs.Lookup.{columns_at, mask_by}
+use Rattle.plan_tables.specs.Due.{rule_stage}
+use Rattle.plan_lay.specs.Lay.{table_task, TablesOf, calls_from}
 use Rattle.plan_tables.specs.Fit.{wanted_by, fitted_by, stays_by}
 use Rattle.plan_tables.specs.Laws.Lookup.{columns_of_lem}
 use Rattle.plan_tables.specs.Laws.Last.{lays_agree, stage→last, last→stage}
@@ -100,8 +95,7 @@ pub record Stands (s : State) (c : ℕ) (plan : List ℕ) : Type 0 where
   pub skipped : (d : ℕ) → (memory_task s).lays d ≡ false → slot_in plan d ≡ no_slot_given
   pub stays : T (stays? (rules_in s) plan)
 
-module _ (s : State) (columns calls words due : List ℕ) (is-columns : RuleColumns s.value.heads.arity s.value.heads.scope s.slots columns)
-    (is-calls : CallSlots s calls) (is-words : RowWords s.rows s.value.heads.lengths columns 64 words) (is-due : DueRules calls columns 64 due) (bytes : (j : ℕ) → get_or s.rows j 0 < 256) where
+module _ (s : State) (t : Tables) (of : TablesOf s.value.heads s.rows s.slots t) (bytes : (j : ℕ) → get_or s.rows j 0 < 256) where
   abbrev m : Task
   m = memory_task s
 
@@ -110,17 +104,18 @@ module _ (s : State) (columns calls words due : List ℕ) (is-columns : RuleColu
 
   -- A ROW WITH THE PLAN'S SLOTS by the tables is one that fits
   fitted_agree : (plan : List ℕ) → length plan ≡ 32 → ((i : ℕ) → i < 32 → get_or plan i 0 < 256) → (p : ℕ) → p < 64
-      → fitted_by words s.value.heads.lengths columns plan p ≡ fitted? R plan p
+      → fitted_by t plan p ≡ fitted? R plan p
   unfolding fitted_by wanted_by
   fitted_agree plan size small p hp =
-      some_same (R.rows p) (λ w. eqb (get_or words (64 * p + w) 0) (wanted_by columns plan p)) (row_matches? s.rows p (mask_by columns p) (wanted_by columns plan p))
-      (λ w h. rw (is-words.each p hp w h) refl)
-      ∙ matched_fitted s plan size p (columns_of_lem _ _ _ columns is-columns p hp)
+      ap (λ (l : List ℕ). some? (rows_of l p) (λ w. eqb (get_or t.words (64 * p + w) 0) (wanted_by t.columns plan p))) of.lengths
+      ∙ some_same (R.rows p) (λ w. eqb (get_or t.words (64 * p + w) 0) (wanted_by t.columns plan p))
+      (row_matches? s.rows p (mask_by t.columns p) (wanted_by t.columns plan p)) (λ w h. rw (of.words.each p hp w h) refl)
+      ∙ matched_fitted s plan size p (columns_of_lem _ _ t.columns of.columns p hp)
       (record { is = refl; small = four (λ k. mask_byte (at k) < 256) (mask (at 0)) (mask (at 1)) (mask (at 2)) (mask (at 3)) })
       (record { is = refl; small = four (λ k. plan_byte plan (at k) < 256) (byte (at 0)) (byte (at 1)) (byte (at 2)) (byte (at 3)) }) bytes
     where
       at : ℕ → ℕ
-      at k = get_or (columns_at columns p) k 0
+      at k = get_or (columns_at t.columns p) k 0
 
       mask : (call : ℕ) → mask_byte call < 256
       mask call = ⊎_elim (λ h. rw (lt-ltb call 32 h) (omega arith)) (λ h. rw (le-ltb call 32 h) (omega arith)) (lt_or_le call 32)
@@ -166,9 +161,9 @@ module _ (s : State) (columns calls words due : List ℕ) (is-columns : RuleColu
         by (inr ne) (inr y) o = let x = i.skipped j y in let z = at_other j ne in omega arith
 
     -- a rule whose last call it is is due,
-    last_due : (p : ℕ) → p < 64 → rule_stage calls columns p ≡ c + 1 → DueRead R next p
+    last_due : (p : ℕ) → p < 64 → rule_stage t.held t.columns p ≡ c + 1 → DueRead R next p
     last_due p hp e =
-        let last = stage→last s columns calls is-columns is-calls p c hp hc e in
+        let last = stage→last s t.columns t.held of.columns of.held p c hp hc e in
         record {
           column = last.column;
           there = last.there;
@@ -179,13 +174,13 @@ module _ (s : State) (columns calls words due : List ℕ) (is-columns : RuleColu
 
     -- and another that is due was due before, with its calls laid as before
     due_before : (p : ℕ) → p < 64 → DueRead R next p
-        → (rule_stage calls columns p ≡ c + 1) ⊎ (DueRead R plan p × ((k : ℕ) → k < R.columns p → slot_in plan (R.call p k) ≡ slot_in next (R.call p k)))
+        → (rule_stage t.held t.columns p ≡ c + 1) ⊎ (DueRead R plan p × ((k : ℕ) → k < R.columns p → slot_in plan (R.call p k) ≡ slot_in next (R.call p k)))
     due_before p hp d = go (find_below (λ k. R.call p k ≡ c) (λ k. eq_or_ne (R.call p k) c) (R.columns p))
       where
         go : ((j : ℕ) × (j < R.columns p) × (R.call p j ≡ c)) ⊎ ((k : ℕ) → k < R.columns p → R.call p k ≡ c → ⊥)
-            → (rule_stage calls columns p ≡ c + 1) ⊎ (DueRead R plan p × ((k : ℕ) → k < R.columns p → slot_in plan (R.call p k) ≡ slot_in next (R.call p k)))
+            → (rule_stage t.held t.columns p ≡ c + 1) ⊎ (DueRead R plan p × ((k : ℕ) → k < R.columns p → slot_in plan (R.call p k) ≡ slot_in next (R.call p k)))
         go (inl at) =
-            inl (last→stage s columns calls is-columns is-calls p c hp l
+            inl (last→stage s t.columns t.held of.columns of.held p c hp l
             (record {
               column = at.0;
               there = at.1;
@@ -206,35 +201,35 @@ module _ (s : State) (columns calls words due : List ℕ) (is-columns : RuleColu
             )
 
     abbrev fits : ℕ → Bool
-    fits p = fitted_by words s.value.heads.lengths columns next p
+    fits p = fitted_by t next p
 
     abbrev is_due : ℕ → Bool
-    is_due p = eqb (bit_of (get_or due c 0) p) 1
+    is_due p = eqb (bit_of (get_or t.due c 0) p) 1
 
     abbrev passes : ℕ → Bool
     passes p = not (is_due p) || fits p
 
     -- THE SLOT STAYS by the tables where it stays
-    pub stays_agree : stays_by words s.value.heads.lengths columns (get_or due c 0) next ≡ stays? R next
+    pub stays_agree : stays_by t (get_or t.due c 0) next ≡ stays? R next
     unfolding stays_by
-    stays_agree = same_test (every? 64 passes) (stays? R next) (λ t. each→stays R next (λ p hp d. all t p hp d (due_before p hp d))) (λ t. →every 64 passes (λ p hp. each t p hp))
+    stays_agree = same_test (every? 64 passes) (stays? R next) (λ x. each→stays R next (λ p hp d. all x p hp d (due_before p hp d))) (λ x. →every 64 passes (λ p hp. each x p hp))
       where
         fitted : (p : ℕ) → p < 64 → fits p ≡ fitted? R next p
         fitted = fitted_agree next next_size next_small
 
         all : T (every? 64 passes) → (p : ℕ) → p < 64 → DueRead R next p
-            → (rule_stage calls columns p ≡ c + 1) ⊎ (DueRead R plan p × ((k : ℕ) → k < R.columns p → slot_in plan (R.call p k) ≡ slot_in next (R.call p k)))
+            → (rule_stage t.held t.columns p ≡ c + 1) ⊎ (DueRead R plan p × ((k : ℕ) → k < R.columns p → slot_in plan (R.call p k) ≡ slot_in next (R.call p k)))
             → T (fitted? R next p)
-        all t p hp d (inl e) =
-            ⊎_elim (λ n. absurd (T_not (is_due p) n (→eqb (bit_of (get_or due c 0) p) 1 ((is-due.each c hc).has p hp e)))) (λ f. rw (fitted p hp) at f)
-            (or→ (not (is_due p)) (fits p) (every→ 64 passes t p hp))
-        all t p hp d (inr b) = rw (fitted_alike R plan p next b.1) at (stays→each R plan i.stays p hp b.0)
+        all x p hp d (inl e) =
+            ⊎_elim (λ n. absurd (T_not (is_due p) n (→eqb (bit_of (get_or t.due c 0) p) 1 ((of.due.each c hc).has p hp e)))) (λ f. rw (fitted p hp) at f)
+            (or→ (not (is_due p)) (fits p) (every→ 64 passes x p hp))
+        all x p hp d (inr b) = rw (fitted_alike R plan p next b.1) at (stays→each R plan i.stays p hp b.0)
 
         each : T (stays? R next) → (p : ℕ) → p < 64 → T (passes p)
-        each t p hp =
+        each x p hp =
             →or (not (is_due p)) (fits p)
-            (⊎_elim (λ (e : bit_of (get_or due c 0) p ≡ 1). inr (rw (fitted p hp) (stays→each R next t p hp (last_due p hp ((is-due.each c hc).only p e).1))))
-            (λ n. inl (not_T (is_due p) (λ x. n (eqb→eq (bit_of (get_or due c 0) p) 1 x)))) (eq_or_ne (bit_of (get_or due c 0) p) 1))
+            (⊎_elim (λ (e : bit_of (get_or t.due c 0) p ≡ 1). inr (rw (fitted p hp) (stays→each R next x p hp (last_due p hp ((of.due.each c hc).only p e).1))))
+            (λ n. inl (not_T (is_due p) (λ y. n (eqb→eq (bit_of (get_or t.due c 0) p) 1 y)))) (eq_or_ne (bit_of (get_or t.due c 0) p) 1))
 
 -- THE WHOLE SEARCH
 module _ (s : State) where
@@ -272,24 +267,19 @@ module _ (s : State) where
         stays = st;
       }
 
-  module _ (columns calls words : List ℕ) (is-columns : RuleColumns s.value.heads.arity s.value.heads.scope s.slots columns) (of : CallsOf s.value.heads.counts s.slots columns calls)
-      (is-words : RowWords s.rows s.value.heads.lengths columns 64 words) (bytes : (j : ℕ) → get_or s.rows j 0 < 256) where
-    abbrev table : Task
-    table = table_task words s.value.heads.lengths columns calls
+  module _ (t : Tables) (of : TablesOf s.value.heads s.rows s.slots t) (bytes : (j : ℕ) → get_or s.rows j 0 < 256) where
+    opens_agree : (c i : ℕ) → c < 32 → i < 32 → open? s.slots c i ≡ eqb (bit_of (get_or t.opened c 0) i) 1
+    opens_agree c i hc hi =
+        same_test (open? s.slots c i) (eqb (bit_of (get_or t.opened c 0) i) 1)
+        (λ x. →eqb (bit_of (get_or t.opened c 0) i) 1 ((of.opened.each c hc).has i hi (eqb→eq (cause_of s.slots c i) 255 x)))
+        (λ x. →eqb (cause_of s.slots c i) 255 ((of.opened.each c hc).only i (eqb→eq (bit_of (get_or t.opened c 0) i) 1 x)).1)
 
-    opens_agree : (c t : ℕ) → c < 32 → t < 32 → open? s.slots c t ≡ eqb (bit_of (get_or of.opened c 0) t) 1
-    opens_agree c t hc ht =
-        same_test (open? s.slots c t) (eqb (bit_of (get_or of.opened c 0) t) 1)
-        (λ x. →eqb (bit_of (get_or of.opened c 0) t) 1 ((of.masks.each c hc).has t ht (eqb→eq (cause_of s.slots c t) 255 x)))
-        (λ x. →eqb (cause_of s.slots c t) 255 ((of.masks.each c hc).only t (eqb→eq (bit_of (get_or of.opened c 0) t) 1 x)).1)
-
-    pub search_agrees : calls_from table 0 no_plan ≡ search_all (memory_task s)
+    pub search_agrees : calls_from (table_task t) 0 no_plan ≡ search_all (memory_task s)
     unfolding calls_from search_all
     search_agrees =
-        sym (search_same (memory_task s) table (Stands s) stands_skip
+        sym (search_same (memory_task s) (table_task t) (Stands s) stands_skip
         (λ c v plan h hv i l o st. stands_lay c v plan h hv i l (→T (stays? (rules_in s) (set plan c v)) st))
-        (λ c h. rw (of.table.lays c h) (sym (lays_agree s columns of.held is-columns of.has c h)))
-        (λ c t h ht. rw (of.table.opens c h) (opens_agree c t h ht))
-        (λ c v plan h hv i l o.
-        rw (of.table.dues c h) (sym (stays_agree s columns of.held words of.due is-columns of.has is-words of.dues bytes c v plan h hv i l)))
+        (λ c h. sym (lays_agree s t.columns t.held of.columns of.held c h))
+        (λ c i h hi. opens_agree c i h hi)
+        (λ c v plan h hv i l o. sym (stays_agree s t of bytes c v plan h hv i l))
         32 0 no_plan refl stands_first)

@@ -1,21 +1,18 @@
 -- THE STEPS OF THE SEARCH, as the code takes them: the next open slot, the calls and slots from one on, and what each step comes to under the ceiling. Assumes nothing.
-use Rattle.std.specs.Prelude.{◌≡◌, refl, true, false, List, ◌≢◌, set, eqb}
-use Rattle.std.proofs.Common.{sym, ap, ◌∙◌, set-set}
-use Prim.Native.Nat.{ℕ, zero, suc, ◌+◌, ◌-◌, ◌/◌, ◌%◌, ◌^◌, ◌<◌, ◌≤◌}
-use native.Mathlib.Omega.{arith}
+use Rattle.std.specs.Prelude.{◌≡◌, refl, true, false, List, ◌≢◌, ℕ, zero, suc, ◌+◌, ◌-◌, ◌/◌, ◌%◌, ◌^◌, ◌<◌, ◌≤◌, set, eqb, Some, None}
+use Rattle.std.proofs.Common.{sym, ap, ◌∙◌, arith, set-set, eq-eqb, ne_eqb, le-leb}
 use Rattle.std.proofs.Math.Numerals.{add-one}
 use Rattle.std.proofs.Math.ListN.{length-set}
 use Rattle.std.specs.Int.Count.{count_trailing_zeros, under}
-use borrow.Author.Tests.{eq-eqb, ne_eqb, le-leb, lt-ltb, le-ltb}
 use Rattle.tables.specs.Masks.{bit_of}
 use Rattle.model.specs.Board.{no_slot_given}
-use Rattle.tables.specs.Laws.Masks.{bit_zero, bit_above, lowest}
+use Rattle.tables.specs.Laws.Masks.{bit_zero, bit_above, has_below, lowest}
 use Rattle.plan_search.specs.Search.{Result, found, nothing, after, or_next, Task}
 use Rattle.plan_search.specs.First.{Clear, Ended, full, stopped, cut}
 use Rattle.plan_search.proofs.Laws.Search.{tries_end, tries_closed, tries_open, search_end, search_skips, search_lays, tries_set, clear_away, goes_on?, later, cut_later, cut_over, cut_first, cut_on}
 use Rattle.plan_lay.specs.declared.lay.Ending.{Ending}
 use Rattle.plan_lay.specs.declared.lay.Ending.TheVariants as ending
-use Rattle.plan_lay.specs.Lay.{NextOpen, calls_from, tries_from, behind_slot, ended_with, ending_at, StepEnded}
+use Rattle.plan_lay.specs.Lay.{FirstOpen, NextOpen, calls_from, tries_from, behind_slot, ended_with, StepEnded}
 
 -- THE NEXT OPEN SLOT. Bits below the lowest are 0
 below_lowest : (k m i : ℕ) → i < count_trailing_zeros k m → bit_of m i ≡ 0
@@ -28,11 +25,11 @@ below_lowest (suc k) m i h = go i (m % 2) refl h (λ j l. below_lowest k (m / 2)
     go (suc i) zero e h ih = ih i (omega arith)
     go i (suc d) e h ih = absurd (omega arith)
 
-module _ (mask s : ℕ) (small : mask < 2 ^ 64) where
+module _ (mask s : ℕ) (small : mask < 2 ^ 32) where
   shifted : (i : ℕ) → s ≤ i → bit_of mask i ≡ bit_of (mask / 2 ^ s) (i - s)
   shifted i h = let e : s + (i - s) ≡ i = omega arith in sym (bit_above mask s (i - s) ∙ ap (bit_of mask) e)
 
-  pub next_none : s ≤ 32 → mask / 2 ^ s ≡ 0 → NextOpen mask s 32
+  pub next_none : s ≤ 32 → mask / 2 ^ s ≡ 0 → NextOpen mask s None
   next_none le z =
       record {
         from = le;
@@ -40,14 +37,17 @@ module _ (mask s : ℕ) (small : mask < 2 ^ 64) where
         here = λ h. absurd (omega arith);
       }
 
-  pub next_found : mask / 2 ^ s ≢ 0 → mask / 2 ^ s < 2 ^ 64 → NextOpen mask s (s + count_trailing_zeros 64 (mask / 2 ^ s))
+  pub next_found : mask / 2 ^ s ≢ 0 → mask / 2 ^ s ≤ mask → NextOpen mask s (Some (s + count_trailing_zeros 64 (mask / 2 ^ s)))
   next_found n le =
-      let low = lowest 64 (mask / 2 ^ s) le (omega arith) in
-      record {
-        from = omega arith;
-        closed = λ i h l. shifted i h ∙ below_lowest 64 (mask / 2 ^ s) (i - s) (omega arith);
-        here = λ h. sym (bit_above mask s (count_trailing_zeros 64 (mask / 2 ^ s))) ∙ low.here;
-      }
+      let low = lowest 64 (mask / 2 ^ s) (omega arith) (omega arith) in
+      let here : bit_of mask (s + count_trailing_zeros 64 (mask / 2 ^ s)) ≡ 1 = sym (bit_above mask s (count_trailing_zeros 64 (mask / 2 ^ s))) ∙ low.here in (
+        has_below 32 mask (s + count_trailing_zeros 64 (mask / 2 ^ s)) small here,
+        record {
+          from = omega arith;
+          closed = λ i h l. shifted i h ∙ below_lowest 64 (mask / 2 ^ s) (i - s) (omega arith);
+          here = λ h. here;
+        },
+      )
 
 -- THE CALLS FROM c ON, and the slots from s on
 module _ (t : Task) (plan : List ℕ) where
@@ -90,19 +90,6 @@ module _ (t : Task) (plan : List ℕ) where
     unfolding tries_from
     slots_set v s = tries_set t (λ laid. calls_from t (suc c) laid) c v (32 - s) s plan
 
--- HOW THE SLOTS OF A CALL ENDED, by the slot
-pub at_none : {s : ℕ} (left : ℕ) → 32 ≤ s → ending_at s left ≡ ending.Nothing
-unfolding ending_at
-at_none {s} left h = rw (le-ltb s 32 h) refl
-
-pub at_stopped : {s left : ℕ} → s < 32 → left ≡ 0 → ending_at s left ≡ ending.Stopped
-unfolding ending_at
-at_stopped {s} {left} h z = rw (lt-ltb s 32 h, eq-eqb left 0 z) refl
-
-pub at_found : {s left : ℕ} → s < 32 → left ≢ 0 → ending_at s left ≡ ending.Found
-unfolding ending_at
-at_found {s} {left} h z = rw (lt-ltb s 32 h, ne_eqb left 0 z) refl
-
 -- TRIALS BEFORE A STEP: what was left before them is what is left after them, and they
 ended_later : (e : Ending) (plan : List ℕ) (n m : ℕ) → ended_with e plan (n + m) ≡ later n (ended_with e plan m)
 ended_later ending.Found plan n m = refl
@@ -136,13 +123,13 @@ module _ (t : Task) (left : ℕ) (plan : List ℕ) (c : ℕ) (pos : 0 < left) wh
       → StepEnded (calls_from t c plan) left rest back after e
   call_skipped h l x = rw (calls_skip t plan c h l) x
 
-  pub call_laid : {rest : ℕ} {after : List ℕ} {e ending : Ending} → c < 32 → t.lays c ≡ true → Clear c plan
-      → StepEnded (tries_from t c 0 plan) left rest (set plan c no_slot_given) after e → e ≡ ending → StepEnded (calls_from t c plan) left rest plan after ending
-  call_laid {rest} {after} {e} {ending} h l clear x is =
-      let y : StepEnded (tries_from t c 0 plan) left rest plan after ending = rw (clear_away c plan clear, is) at x in rw (calls_lay t plan c h l) y
+  pub call_laid : {rest : ℕ} {after : List ℕ} {e : Ending} → c < 32 → t.lays c ≡ true → Clear c plan
+      → StepEnded (tries_from t c 0 plan) left rest (set plan c no_slot_given) after e → StepEnded (calls_from t c plan) left rest plan after e
+  call_laid {rest} {after} {e} h l clear x =
+      let y : StepEnded (tries_from t c 0 plan) left rest plan after e = rw (clear_away c plan clear) at x in rw (calls_lay t plan c h l) y
 
   -- the slots: none is left, what is behind one ends the search, or lets the next be tried
-  module _ {mask slot s : ℕ} (opens : (i : ℕ) → t.opens c i ≡ eqb (bit_of mask i) 1) (next : NextOpen mask slot s) where
+  module _ {mask slot s : ℕ} (opens : (i : ℕ) → t.opens c i ≡ eqb (bit_of mask i) 1) (next : FirstOpen mask slot s) where
     passed : (r : ℕ) → slot ≤ r → r ≤ s → r ≤ 32 → tries_from t c slot plan ≡ tries_from t c r plan
     passed r from most last =
         slots_pass t plan c (r - slot) slot r (omega arith) last
@@ -151,31 +138,29 @@ module _ (t : Task) (left : ℕ) (plan : List ℕ) (c : ℕ) (pos : 0 < left) wh
     opened : s < 32 → tries_from t c slot plan ≡ after 1 (or_next (behind_slot t c s plan) (tries_from t c (s + 1) plan))
     opened h = passed s next.from (omega arith) (omega arith) ∙ slots_open t plan c s h (opens s ∙ eq-eqb (bit_of mask s) 1 (next.here h))
 
-    pub slots_done : slot ≤ 32 → 32 ≤ s → Clear (c + 1) plan → StepEnded (tries_from t c slot plan) left left (set plan c no_slot_given) (set plan c no_slot_given) (ending_at 32 left)
+    pub slots_done : slot ≤ 32 → s ≡ 32 → Clear (c + 1) plan → StepEnded (tries_from t c slot plan) left left (set plan c no_slot_given) (set plan c no_slot_given) ending.Nothing
     slots_done le h clear =
-        rw (at_none {s = 32} left (omega arith))
-        (record {
-          ended = rw none_made (sym (ap (cut (left - 1)) (passed 32 le h (omega arith) ∙ slots_end t plan c 32 (omega arith)) ∙ rw (le-leb 0 (left - 1) (omega arith)) refl));
+        record {
+          ended = rw none_made (sym (ap (cut (left - 1)) (passed 32 le (omega arith) (omega arith) ∙ slots_end t plan c 32 (omega arith)) ∙ rw (le-leb 0 (left - 1) (omega arith)) refl));
           fewer = omega arith;
           remains = pos;
           size = length-set plan c no_slot_given ∙ clear.size;
           undone = refl;
-        })
+        }
 
     module _ (h : s < 32) where
       ends : (e : Ended) → e ≡ cut (left - 1) (after 1 (behind_slot t c s plan)) → goes_on? e ≡ false → e ≡ cut (left - 1) (tries_from t c slot plan)
       ends e is off = cut_first (left - 1) (behind_slot t c s plan) (tries_from t c (s + 1) plan) e is off ∙ sym (ap (cut (left - 1)) (opened h))
 
       pub slot_found : {rest : ℕ} {back laid : List ℕ} → StepEnded (after 1 (behind_slot t c s plan)) left rest back laid ending.Found
-          → StepEnded (tries_from t c slot plan) left rest (set plan c no_slot_given) laid (ending_at s rest)
+          → StepEnded (tries_from t c slot plan) left rest (set plan c no_slot_given) laid ending.Found
       slot_found {rest} {back} {laid} x =
-          rw (at_found {left = rest} h (λ z. omega (arith, x.remains)))
-          (record { ended = ends (full laid (left - rest)) x.ended refl; fewer = x.fewer; remains = x.remains; size = x.size; undone = tt })
+          record { ended = ends (full laid (left - rest)) x.ended refl; fewer = x.fewer; remains = x.remains; size = x.size; undone = tt }
 
       pub slot_stops : {rest : ℕ} {back laid : List ℕ} → StepEnded (after 1 (behind_slot t c s plan)) left rest back laid ending.Stopped
-          → StepEnded (tries_from t c slot plan) left rest (set plan c no_slot_given) laid (ending_at s rest)
+          → StepEnded (tries_from t c slot plan) left rest (set plan c no_slot_given) laid ending.Stopped
       slot_stops {rest} {back} {laid} x =
-          rw (at_stopped {left = rest} h x.remains) (record { ended = ends stopped x.ended refl; fewer = x.fewer; remains = x.remains; size = x.size; undone = tt })
+          record { ended = ends stopped x.ended refl; fewer = x.fewer; remains = x.remains; size = x.size; undone = tt }
 
       pub slot_leaves : {between rest : ℕ} {laid last : List ℕ} {e : Ending} → StepEnded (after 1 (behind_slot t c s plan)) left between (set plan c s) laid ending.Nothing
           → StepEnded (tries_from t c (s + 1) laid) between rest (set laid c no_slot_given) last e → StepEnded (tries_from t c slot plan) left rest (set plan c no_slot_given) last e

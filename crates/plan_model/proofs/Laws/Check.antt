@@ -1,8 +1,6 @@
 -- THE EQUATION SAYS WHAT THE ANSWER MEANS, on a state that is a ledger's. Assumes nothing.
-use Rattle.std.specs.Prelude.{◌≡◌, refl, true, false, cond, List, [], ◌∷◌, ◌⊎◌, length, eqb, ltb}
+use Rattle.std.specs.Prelude.{◌≡◌, refl, true, false, cond, List, [], ◌∷◌, ◌⊎◌, ℕ, ◌<◌, length, eqb, ltb, Bool, Some, None, Ok}
 use Rattle.std.proofs.Common.{sym, ap, subst, ◌∙◌, inl, inr, arith, lt-ltb, leb-false, eqb-true, ne_eqb}
-use Rattle.std.proofs.Math.Bool.{Bool}
-use Prim.Native.Nat.{ℕ, zero, suc, ◌<◌}
 use Rattle.std.proofs.lemmas.Bool.{not-false}
 use Rattle.tables.specs.Laws.Facts.{true_or_false}
 use Rattle.layout.specs.Memory.{State, lent_of}
@@ -11,36 +9,26 @@ use Rattle.model.specs.Tests.{some?, first}
 use Rattle.model.specs.Ledger.{Ledger, LedgerShape}
 use Rattle.model.specs.Representation.{Represents}
 use Rattle.model.specs.Promise.{values_at}
-use Rattle.model.specs.Refusals.{first_of}
+use Rattle.model.specs.Refusals.{first_of, AnsweredBy}
 use Rattle.model.specs.Numbers as refused
 use Rattle.model.proofs.Laws.Tests.{→T, T→, none_passes}
 use Rattle.model.proofs.Laws.Search.{some_same}
 use Rattle.model.proofs.Laws.Theory.{numbered, live_on}
-use Rattle.model.proofs.Laws.Refusals.{none_holds}
+use Rattle.model.proofs.Laws.Refusals.{none_holds, answered_number, answered_with, answered_values}
 use Rattle.model.proofs.Laws.Heads.{no_calls}
 use Rattle.model.proofs.Laws.Questions.{first_some, first_none, first_lowest}
-use Rattle.plan_model.specs.declared.answer.PlanCheck.TheVariants as plan
 use Rattle.plan_model.specs.Plans.{plan_size, slot_in, slots_on_in, rules_of, rules_in, breaks?, lowest_broken}
-use Rattle.plan_model.specs.Check.{wrong_byte?, wrong_plan?, plan_conditions, plan_checks, plan_number, plan_values, broken_answer, broken_value, plan_by, plan_answer, PlanMeans, PlanPromise}
+use Rattle.plan_model.specs.Check.{wrong_byte?, wrong_plan?, plan_conditions, plan_checks, PlanCheck, plan_values, broken_answer, broken_value, plan_shown, PlanMeans, PlanPromise}
 use Rattle.plan_model.proofs.Laws.Fits.{breaks→, kept→}
 use Rattle.plan_model.proofs.Laws.Memory.{broken_held, slots_on_held}
 
--- number and values of the answer, by its refusal's number
-plan_number_lem : (n p : ℕ) → plan_number (plan_by n p) ≡ n
-plan_number_lem zero p = go (ltb p 64)
+-- the value of what is shown
+plan_values_lem : (p : ℕ) → plan_values (Ok (broken_answer p)) ≡ broken_value p ∷ []
+plan_values_lem p = go (ltb p 64)
   where
-    go : (b : Bool) → plan_number (cond b (plan.Broken p) plan.Kept) ≡ 0
+    go : (b : Bool) → plan_values (Ok (cond b (Some p) None)) ≡ cond b p 255 ∷ []
     go true = refl
     go false = refl
-plan_number_lem (suc n) p = refl
-
-plan_values_lem : (n p : ℕ) → plan_values (plan_by n p) ≡ values_at n (broken_value p ∷ [])
-plan_values_lem zero p = go (ltb p 64)
-  where
-    go : (b : Bool) → plan_values (cond b (plan.Broken p) plan.Kept) ≡ cond b p 255 ∷ []
-    go true = refl
-    go false = refl
-plan_values_lem (suc n) p = refl
 
 -- ON A BOARD, of bytes that pass 33
 module _ (B : Board) (shape : Shape B) (bytes : List ℕ) (right : wrong_plan? (slots_on B) bytes ≡ false) where
@@ -71,14 +59,14 @@ module _ (B : Board) (shape : Shape B) (bytes : List ℕ) (right : wrong_plan? (
         keeps = λ p r f. kept→ B bytes p (none_passes 64 (breaks? (rules_of B) bytes) e p (rw (← shape.numbers) (numbered B p r f))) r f;
       }
 
-  plan_means : PlanMeans B bytes (broken_answer (lowest_broken (rules_of B) bytes))
+  plan_means : PlanMeans B bytes (Ok (broken_answer (lowest_broken (rules_of B) bytes)))
   unfolding lowest_broken
   plan_means = go (true_or_false (some? 64 f))
     where
       f : ℕ → Bool
       f = breaks? (rules_of B) bytes
 
-      go : (some? 64 f ≡ true) ⊎ (some? 64 f ≡ false) → PlanMeans B bytes (cond (ltb (first 64 f) 64) (plan.Broken (first 64 f)) plan.Kept)
+      go : (some? 64 f ≡ true) ⊎ (some? 64 f ≡ false) → PlanMeans B bytes (Ok (cond (ltb (first 64 f) 64) (Some (first 64 f)) None))
       go (inl e) =
           let x = first_some 64 f (→T (some? 64 f) e) in
           rw (lt-ltb (first 64 f) 64 x.0)
@@ -95,22 +83,23 @@ checks_same L shape s rep bytes =
     (λ c h. ap (λ (n : ℕ). wrong_byte? n (slot_in bytes c)) (slots_on_held L shape s rep c)) in
     rw (board, wrong) refl
 
-pub plan_promise : (s : State) (bytes : List ℕ) → PlanPromise s bytes (plan_answer s bytes)
-plan_promise s bytes =
+pub plan_promise : (s : State) (bytes : List ℕ) (given : PlanCheck) → AnsweredBy (first_of (plan_checks s bytes)) (plan_shown s bytes) given → PlanPromise s bytes given
+plan_promise s bytes given by =
     record {
-      equation = refl;
+      equation = by;
       answered = λ L shape rep.
           let e = checks_same L shape s rep bytes in
           let held = broken_held L shape s rep bytes in
           record {
-            number = plan_number_lem (first_of (plan_checks s bytes)) (lowest_broken (rules_in s) bytes) ∙ e;
-            values = plan_values_lem (first_of (plan_checks s bytes)) (lowest_broken (rules_in s) bytes)
+            number = answered_number (first_of (plan_checks s bytes)) (plan_shown s bytes) given by ∙ e;
+            values = answered_values plan_values (λ f. refl) (first_of (plan_checks s bytes)) (plan_shown s bytes) given by
+                ∙ ap (values_at (first_of (plan_checks s bytes))) (plan_values_lem (lowest_broken (rules_in s) bytes))
                 ∙ ap (λ (p : ℕ). values_at (first_of (plan_checks s bytes)) (broken_value p ∷ [])) held
                 ∙ ap (λ (n : ℕ). values_at n (broken_value (lowest_broken (rules_of L.board) bytes) ∷ [])) e;
             means = λ z.
                 let clear = none_holds (plan_conditions L (lent_of s) bytes) tt z in
                 subst (PlanMeans L.board bytes)
-                (sym (ap (λ (n : ℕ). plan_by n (lowest_broken (rules_in s) bytes)) (e ∙ z) ∙ ap (plan_by 0) held))
+                (sym (answered_with (first_of (plan_checks s bytes)) (plan_shown s bytes) given by (e ∙ z) ∙ ap (λ (p : ℕ). Ok (broken_answer p)) held))
                 (plan_means L.board shape.board bytes (clear refused.bad_plan_byte));
           };
     }

@@ -1,5 +1,5 @@
 -- WHAT AN ANSWER THAT KEEPS THE PROMISE SAYS (SCOPE 5.9, 5.10), whatever code gave it: each "exactly when" both ways, and that its meaning settles it. Assumes nothing.
-use Rattle.std.specs.Prelude.{◌≡◌, refl, false, ◌&&◌, List, ◌↔◌, ◌⊎◌, ℕ, zero, suc, ◌<◌, ◌≤◌, length, ltb}
+use Rattle.std.specs.Prelude.{◌≡◌, refl, false, ◌&&◌, List, ◌↔◌, ◌⊎◌, ℕ, zero, suc, ◌<◌, ◌≤◌, length, ltb, Ok, Err}
 use Rattle.std.proofs.Common.{sym, ap, subst, ◌∙◌, inl, inr, ⊎_elim, arith, ext_get_or, ltb→lt, le-leb}
 use Rattle.tables.specs.Laws.Facts.{eq_or_ne, lt_or_le}
 use Rattle.layout.specs.Memory.{State, lent_of}
@@ -13,7 +13,8 @@ use Rattle.model.proofs.Laws.Theory.{live_not}
 use Rattle.plan_model.specs.Plans.{plan_size, slot_in}
 use Rattle.plan_search.specs.declared.answer.FirstPlan.{FirstPlan}
 use Rattle.plan_search.specs.declared.answer.FirstPlan.TheVariants as first
-use Rattle.plan_search.specs.declared.answer.PlanAnswer.{PlanAnswer}
+use Rattle.model.specs.declared.refusal.Refusal.{Refusal}
+use Rattle.std.specs.Prelude as answer
 use Rattle.plan_search.specs.Search.{Result, found, Task, search}
 use Rattle.plan_search.specs.First.{no_plan, board_task, search_all, trials, cut, ended_answer, Before, FoundFirst, FirstMeans, FirstPromise}
 use Rattle.plan_search.proofs.Laws.Search.{search_end, search_skips}
@@ -50,21 +51,23 @@ one_first B ceiling n m plan other f g =
         (same_or_before (length B.counts) (slot_in plan) (slot_in other))
 
 -- OF ONE BOARD AND ONE CEILING ONLY ONE ANSWER IS RIGHT, with its count and its bytes
-pub one_first_answer : (B : Board) (ceiling : ℕ) (plan other : List ℕ) (a b : FirstPlan) → FirstMeans B ceiling plan a → FirstMeans B ceiling other b
-    → (a ≡ b) × (plan ≡ other)
-one_first_answer B ceiling plan other (first.Found n) (first.Found m) f g = (ap first.Found (f.count ∙ sym g.count), one_first B ceiling n m plan other f g)
-one_first_answer B ceiling plan other (first.Found n) (first.Nothing m) f g = absurd (g.never (slot_in plan) f.fulfils)
-one_first_answer B ceiling plan other (first.Found n) (first.Stopped m) f g = absurd (omega (arith, f.count, f.within, g.more))
-one_first_answer B ceiling plan other (first.Nothing n) (first.Found m) f g = absurd (f.never (slot_in other) g.fulfils)
-one_first_answer B ceiling plan other (first.Nothing n) (first.Nothing m) f g = (ap first.Nothing (f.count ∙ sym g.count), f.blank ∙ sym g.blank)
-one_first_answer B ceiling plan other (first.Nothing n) (first.Stopped m) f g = absurd (omega (arith, f.count, f.within, g.more))
-one_first_answer B ceiling plan other (first.Stopped n) (first.Found m) f g = absurd (omega (arith, g.count, g.within, f.more))
-one_first_answer B ceiling plan other (first.Stopped n) (first.Nothing m) f g = absurd (omega (arith, g.count, g.within, f.more))
-one_first_answer B ceiling plan other (first.Stopped n) (first.Stopped m) f g = (ap first.Stopped (f.count ∙ sym g.count), f.blank ∙ sym g.blank)
-one_first_answer B ceiling plan other (first.Found n) (first.Refused k) f g = absurd g
-one_first_answer B ceiling plan other (first.Nothing n) (first.Refused k) f g = absurd g
-one_first_answer B ceiling plan other (first.Stopped n) (first.Refused k) f g = absurd g
-one_first_answer B ceiling plan other (first.Refused k) b f g = absurd f
+pub one_first_answer : (B : Board) (ceiling : ℕ) (a b : answer.Result FirstPlan Refusal) → FirstMeans B ceiling a → FirstMeans B ceiling b → a ≡ b
+one_first_answer B ceiling (Ok (first.Found n plan)) (Ok (first.Found m other)) f g =
+    let count : n ≡ m = f.count ∙ sym g.count in
+    let same : plan ≡ other = one_first B ceiling n m plan other f g in
+    cc
+one_first_answer B ceiling (Ok (first.Found n plan)) (Ok (first.Nothing m)) f g = absurd (g.never (slot_in plan) f.fulfils)
+one_first_answer B ceiling (Ok (first.Found n plan)) (Ok (first.Stopped m)) f g = absurd (omega (arith, f.count, f.within, g.more))
+one_first_answer B ceiling (Ok (first.Nothing n)) (Ok (first.Found m other)) f g = absurd (f.never (slot_in other) g.fulfils)
+one_first_answer B ceiling (Ok (first.Nothing n)) (Ok (first.Nothing m)) f g = let count : n ≡ m = f.count ∙ sym g.count in cc
+one_first_answer B ceiling (Ok (first.Nothing n)) (Ok (first.Stopped m)) f g = absurd (omega (arith, f.count, f.within, g.more))
+one_first_answer B ceiling (Ok (first.Stopped n)) (Ok (first.Found m other)) f g = absurd (omega (arith, g.count, g.within, f.more))
+one_first_answer B ceiling (Ok (first.Stopped n)) (Ok (first.Nothing m)) f g = absurd (omega (arith, g.count, g.within, f.more))
+one_first_answer B ceiling (Ok (first.Stopped n)) (Ok (first.Stopped m)) f g = let count : n ≡ m = f.count ∙ sym g.count in cc
+one_first_answer B ceiling (Ok (first.Found n plan)) (Err k) f g = absurd g
+one_first_answer B ceiling (Ok (first.Nothing n)) (Err k) f g = absurd g
+one_first_answer B ceiling (Ok (first.Stopped n)) (Err k) f g = absurd g
+one_first_answer B ceiling (Err k) b f g = absurd f
 
 -- A SEARCH WITH NO CALL TO LAY comes to the plan in which none is, with no trial
 none_to_lay : (t : Task) → ((c : ℕ) → t.lays c ≡ false) → search_all t ≡ found no_plan 0
@@ -83,57 +86,60 @@ skipped B off c =
 
 -- ON A STATE THAT IS A LEDGER'S, where nothing is refused
 module _ (L : Ledger) (shape : LedgerShape L) (s : State) (rep : Represents L s) (passes : first_of (board_conditions L (lent_of s)) ≡ 0) (ceiling : ℕ)
-    (given : PlanAnswer) (promise : FirstPromise s ceiling given) where
+    (given : answer.Result FirstPlan Refusal) (promise : FirstPromise s ceiling given) where
   abbrev needed : ℕ
   needed = trials (search_all (board_task L.board))
 
   abbrev NoFullPlan : Type 0
   NoFullPlan = (P : ℕ → ℕ) → FullPlan L.board P → ⊥
 
+  abbrev Given : Type 0
+  Given = answer.Result FirstPlan Refusal
+
   -- "FOUND" EXACTLY WHERE THERE IS A FULL PLAN and the search comes to it within the ceiling
-  pub found_exactly : ((n : ℕ) × (given.answer ≡ first.Found n)) ↔ (((P : ℕ → ℕ) × FullPlan L.board P) × (needed ≤ ceiling))
-  found_exactly = go given.plan given.answer ((promise.answered L shape rep).means passes)
+  pub found_exactly : ((n : ℕ) × ((plan : List ℕ) × (given ≡ Ok (first.Found n plan)))) ↔ (((P : ℕ → ℕ) × FullPlan L.board P) × (needed ≤ ceiling))
+  found_exactly = go given ((promise.answered L shape rep).means passes)
     where
-      go : (plan : List ℕ) (a : FirstPlan) → FirstMeans L.board ceiling plan a
-          → ((n : ℕ) × (a ≡ first.Found n)) ↔ (((P : ℕ → ℕ) × FullPlan L.board P) × (needed ≤ ceiling))
-      go plan (first.Found n) m = (λ x. ((slot_in plan, m.fulfils), omega (arith, m.count, m.within)), λ y. (n, refl))
-      go plan (first.Nothing n) m =
-          (λ x. let e = x.1 in let z : ◌≡◌ {A = ℕ} 0 1 = cc in absurd (omega arith), λ y. absurd (m.never y.0.0 y.0.1))
-      go plan (first.Stopped n) m =
-          (λ x. let e = x.1 in let z : ◌≡◌ {A = ℕ} 0 1 = cc in absurd (omega arith), λ y. let within = y.1 in absurd (omega (arith, m.more)))
-      go plan (first.Refused n) m = absurd m
+      go : (a : Given) → FirstMeans L.board ceiling a
+          → ((n : ℕ) × ((plan : List ℕ) × (a ≡ Ok (first.Found n plan)))) ↔ (((P : ℕ → ℕ) × FullPlan L.board P) × (needed ≤ ceiling))
+      go (Ok (first.Found n plan)) m = (λ x. ((slot_in plan, m.fulfils), omega (arith, m.count, m.within)), λ y. (n, (plan, refl)))
+      go (Ok (first.Nothing n)) m =
+          (λ x. let e = x.1.1 in let z : ◌≡◌ {A = ℕ} 0 1 = cc in absurd (omega arith), λ y. absurd (m.never y.0.0 y.0.1))
+      go (Ok (first.Stopped n)) m =
+          (λ x. let e = x.1.1 in let z : ◌≡◌ {A = ℕ} 0 1 = cc in absurd (omega arith), λ y. let within = y.1 in absurd (omega (arith, m.more)))
+      go (Err k) m = absurd m
 
   -- and what is found is the first full plan, with the trials that it needs
-  pub found_is_first : (n : ℕ) → given.answer ≡ first.Found n → FoundFirst L.board ceiling given.plan n
-  found_is_first n e = subst (λ (a : FirstPlan). FirstMeans L.board ceiling given.plan a) e ((promise.answered L shape rep).means passes)
+  pub found_is_first : (n : ℕ) (plan : List ℕ) → given ≡ Ok (first.Found n plan) → FoundFirst L.board ceiling plan n
+  found_is_first n plan e = subst (λ (a : Given). FirstMeans L.board ceiling a) e ((promise.answered L shape rep).means passes)
 
   -- "NONE" EXACTLY WHERE THERE IS NO FULL PLAN and the search finishes within the ceiling
-  pub none_exactly : ((n : ℕ) × (given.answer ≡ first.Nothing n)) ↔ (NoFullPlan × (needed ≤ ceiling))
-  none_exactly = go given.plan given.answer ((promise.answered L shape rep).means passes)
+  pub none_exactly : ((n : ℕ) × (given ≡ Ok (first.Nothing n))) ↔ (NoFullPlan × (needed ≤ ceiling))
+  none_exactly = go given ((promise.answered L shape rep).means passes)
     where
-      go : (plan : List ℕ) (a : FirstPlan) → FirstMeans L.board ceiling plan a → ((n : ℕ) × (a ≡ first.Nothing n)) ↔ (NoFullPlan × (needed ≤ ceiling))
-      go plan (first.Found n) m =
+      go : (a : Given) → FirstMeans L.board ceiling a → ((n : ℕ) × (a ≡ Ok (first.Nothing n))) ↔ (NoFullPlan × (needed ≤ ceiling))
+      go (Ok (first.Found n plan)) m =
           (λ x. let e = x.1 in let z : ◌≡◌ {A = ℕ} 0 1 = cc in absurd (omega arith), λ y. absurd (y.0 (slot_in plan) m.fulfils))
-      go plan (first.Nothing n) m = (λ x. (m.never, omega (arith, m.count, m.within)), λ y. (n, refl))
-      go plan (first.Stopped n) m =
+      go (Ok (first.Nothing n)) m = (λ x. (m.never, omega (arith, m.count, m.within)), λ y. (n, refl))
+      go (Ok (first.Stopped n)) m =
           (λ x. let e = x.1 in let z : ◌≡◌ {A = ℕ} 0 1 = cc in absurd (omega arith), λ y. let within = y.1 in absurd (omega (arith, m.more)))
-      go plan (first.Refused n) m = absurd m
+      go (Err k) m = absurd m
 
   -- "STOPPED" EXACTLY WHERE THE SEARCH NEEDS MORE TRIALS THAN THE CEILING
-  pub stopped_exactly : ((n : ℕ) × (given.answer ≡ first.Stopped n)) ↔ (ceiling < needed)
-  stopped_exactly = go given.plan given.answer ((promise.answered L shape rep).means passes)
+  pub stopped_exactly : ((n : ℕ) × (given ≡ Ok (first.Stopped n))) ↔ (ceiling < needed)
+  stopped_exactly = go given ((promise.answered L shape rep).means passes)
     where
-      go : (plan : List ℕ) (a : FirstPlan) → FirstMeans L.board ceiling plan a → ((n : ℕ) × (a ≡ first.Stopped n)) ↔ (ceiling < needed)
-      go plan (first.Found n) m =
+      go : (a : Given) → FirstMeans L.board ceiling a → ((n : ℕ) × (a ≡ Ok (first.Stopped n))) ↔ (ceiling < needed)
+      go (Ok (first.Found n plan)) m =
           (λ x. let e = x.1 in let z : ◌≡◌ {A = ℕ} 0 1 = cc in absurd (omega arith), λ y. absurd (omega (arith, m.count, m.within)))
-      go plan (first.Nothing n) m =
+      go (Ok (first.Nothing n)) m =
           (λ x. let e = x.1 in let z : ◌≡◌ {A = ℕ} 0 1 = cc in absurd (omega arith), λ y. absurd (omega (arith, m.count, m.within)))
-      go plan (first.Stopped n) m = (λ x. m.more, λ y. (n, refl))
-      go plan (first.Refused n) m = absurd m
+      go (Ok (first.Stopped n)) m = (λ x. m.more, λ y. (n, refl))
+      go (Err k) m = absurd m
 
   -- WITH EVERY CALL CANCELLED the plan is found with no trial, whatever the ceiling
-  pub all_cancelled : ((c : ℕ) → c < length L.board.counts → Cancelled L.board c) → given ≡ record { answer = first.Found 0; plan = no_plan }
+  pub all_cancelled : ((c : ℕ) → c < length L.board.counts → Cancelled L.board c) → given ≡ Ok (first.Found 0 no_plan)
   all_cancelled off =
       (promise.answered L shape rep).searched passes
-      ∙ ap (λ (r : Result). ended_answer ceiling (cut ceiling r)) (none_to_lay (board_task L.board) (skipped L.board off))
+      ∙ ap (λ (r : Result). let a : Given = Ok (ended_answer ceiling (cut ceiling r)) in a) (none_to_lay (board_task L.board) (skipped L.board off))
       ∙ rw (le-leb 0 ceiling (omega arith)) refl

@@ -12,18 +12,19 @@ use Rattle.layout.specs.Places.{rows_of}
 use Rattle.model.specs.Tests.{some?, every?}
 use Rattle.model.proofs.Laws.Tests.{→T, T→, not→, →or, every→, →every}
 use Rattle.plan_fit.specs.Words.{plan_byte, IsWord}
+use Rattle.plan_tables.specs.declared.lookup.Tables.{Tables}
 use Rattle.plan_tables.specs.Lookup.{columns_at}
 use Rattle.plan_tables.specs.Fit.{wanted_by, fitted_by, stays_by}
 
 -- ONE RULE, by the word that the code makes of the plan
-pub fitted_by_lem : (words lengths columns plan : List ℕ) (p : ℕ) {wanted : ℕ} {b : Bool} → IsWord (columns_at columns p) (plan_byte plan) wanted
-    → b ≡ some? (rows_of lengths p) (λ w. eqb (get_or words (64 * p + w) 0) wanted) → b ≡ fitted_by words lengths columns plan p
+pub fitted_by_lem : (t : Tables) (plan : List ℕ) (p : ℕ) {wanted : ℕ} {b : Bool} → IsWord (columns_at t.columns p) (plan_byte plan) wanted
+    → b ≡ some? (rows_of t.lengths p) (λ w. eqb (get_or t.words (64 * p + w) 0) wanted) → b ≡ fitted_by t plan p
 unfolding fitted_by wanted_by
-fitted_by_lem words lengths columns plan p word e = rw (← word.is) e
+fitted_by_lem t plan p word e = rw (← word.is) e
 
-module _ (words lengths columns plan : List ℕ) where
+module _ (t : Tables) (plan : List ℕ) where
   abbrev fits : ℕ → Bool
-  fits p = fitted_by words lengths columns plan p
+  fits p = fitted_by t plan p
 
   pub record FitSoFar (rules left : ℕ) : Type 0 where
     pub lowest_first : Left 64 rules left
@@ -42,7 +43,7 @@ module _ (words lengths columns plan : List ℕ) where
   abbrev passes : ℕ → ℕ → Bool
   passes rules p = not (eqb (bit_of rules p) 1) || fits p
 
-  pub fit_all : {rules left : ℕ} → left ≡ 0 → FitSoFar rules left → true ≡ stays_by words lengths columns rules plan
+  pub fit_all : {rules left : ℕ} → left ≡ 0 → FitSoFar rules left → true ≡ stays_by t rules plan
   unfolding stays_by
   fit_all {rules} z x =
       sym (T→ (every? 64 (passes rules))
@@ -51,11 +52,11 @@ module _ (words lengths columns plan : List ℕ) where
       →or (not (eqb (bit_of rules p) 1)) (fits p)
       (⊎_elim (λ (b : bit_of rules p ≡ 1). inr (→T (fits p) (x.fit p (taken_all z b)))) (λ n. inl (rw (ne_eqb (bit_of rules p) 1 n) tt)) (eq_or_ne (bit_of rules p) 1)))))
 
-  pub fit_fails : {rules left : ℕ} → left ≢ 0 → FitSoFar rules left → fits (count_trailing_zeros 64 left) ≡ false → false ≡ stays_by words lengths columns rules plan
+  pub fit_fails : {rules left : ℕ} → left ≢ 0 → FitSoFar rules left → fits (count_trailing_zeros 64 left) ≡ false → false ≡ stays_by t rules plan
   unfolding stays_by
   fit_fails {rules} {left} n x e =
       let low = left_lowest n x.lowest_first in
       let p = count_trailing_zeros 64 left in
       let b : bit_of rules p ≡ 1 = x.lowest_first.part p low.here in
       sym (not→ (every? 64 (passes rules))
-      (λ t. let d = every→ 64 (passes rules) t p low.place in absurd (rw (eq-eqb (bit_of rules p) 1 b, e) at d)))
+      (λ x. let d = every→ 64 (passes rules) x p low.place in absurd (rw (eq-eqb (bit_of rules p) 1 b, e) at d)))

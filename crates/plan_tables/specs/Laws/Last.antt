@@ -30,7 +30,7 @@ one_of : (a b d e x : ℕ) → max (max a b) (max d e) ≡ x → (a ≡ x) ⊎ (
 one_of a b d e x z =
     ⊎_elim (λ p. inl p) (λ p. inr (⊎_elim (λ q. inl q) (λ q. inr (⊎_elim (λ r. inl r) (λ r. inr (omega arith)) (eq_or_ne d x))) (eq_or_ne b x))) (eq_or_ne a x)
 
-module _ (s : State) (columns calls : List ℕ) (is-columns : RuleColumns s.value.heads.arity s.value.heads.scope s.slots columns) (is-calls : CallSlots s calls) where
+module _ (s : State) (columns calls : List ℕ) (is-columns : RuleColumns s.value.heads s.slots columns) (is-calls : CallSlots s calls) where
   abbrev m : Task
   m = memory_task s
 
@@ -55,15 +55,15 @@ module _ (s : State) (columns calls : List ℕ) (is-columns : RuleColumns s.valu
     counts_or = ⊎_elim (λ h. ⊎_elim (λ off. inr (inr off)) (λ on. inl (h, on)) (true_or_false (R.off (R.call p k)))) (λ past. inr (inl past)) (lt_or_le k (R.columns p))
 
     counts : k < R.columns p → R.off (R.call p k) ≡ false → get_or columns (4 * p + k) 0 ≡ R.call p k
-    counts h on = column_at _ _ _ columns is-columns p hp k hk ∙ sym (call_here s.value.heads.arity s.value.heads.scope s.slots p k refl h (sym on))
+    counts h on = column_at _ _ columns is-columns p hp k hk ∙ sym (call_here s.value.heads s.slots p k refl h (sym on))
 
     idle : (R.columns p ≤ k) ⊎ (R.off (R.call p k) ≡ true) → get_or columns (4 * p + k) 0 ≡ 255
-    idle o = column_at _ _ _ columns is-columns p hp k hk ∙ sym (by o (lt_or_le k (R.columns p)))
+    idle o = column_at _ _ columns is-columns p hp k hk ∙ sym (by o (lt_or_le k (R.columns p)))
       where
-        by : (R.columns p ≤ k) ⊎ (R.off (R.call p k) ≡ true) → (k < R.columns p) ⊎ (R.columns p ≤ k) → 255 ≡ column_call s.value.heads.arity s.value.heads.scope s.slots p k
-        by o (inr past) = call_past s.value.heads.arity s.value.heads.scope s.slots p k refl past
+        by : (R.columns p ≤ k) ⊎ (R.off (R.call p k) ≡ true) → (k < R.columns p) ⊎ (R.columns p ≤ k) → 255 ≡ column_call s.value.heads s.slots p k
+        by o (inr past) = call_past s.value.heads s.slots p k refl past
         by (inl past) (inl h) = absurd (omega arith)
-        by (inr off) (inl h) = call_off s.value.heads.arity s.value.heads.scope s.slots p k refl h (sym off)
+        by (inr off) (inl h) = call_off s.value.heads s.slots p k refl h (sym off)
 
     stage_laid : k < R.columns p → m.lays (R.call p k) ≡ true → stage p k ≡ R.call p k + 1
     stage_laid h l =

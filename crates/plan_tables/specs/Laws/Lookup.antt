@@ -7,11 +7,12 @@ use Rattle.std.proofs.lemmas.List.{length-replicate}
 use Rattle.std.proofs.Math.Seq.{get_or-set_same, get_or-set_other}
 use Rattle.std.specs.Int.Bits.{bit_and}
 use Rattle.tables.specs.Laws.Facts.{eq_or_ne}
+use Rattle.layout.specs.declared.value.Heads.{Heads}
 use Rattle.layout.specs.Places.{row_start, rows_of}
 use Rattle.masks.specs.Columns.{word_at}
 use Rattle.masks.specs.Laws.Columns.{four}
 use Rattle.plan_fit.specs.Words.{column_call, ColumnCalls, mask_byte, IsWord}
-use Rattle.plan_tables.specs.Lookup.{Entries, RuleColumns, columns_at, CallTable, words_length, WordsMade, RowWords}
+use Rattle.plan_tables.specs.Lookup.{Entries, RuleColumns, columns_at, words_length, WordsMade, RowWords}
 
 module _ (P : ℕ → ℕ → Type 0) (size : ℕ) where
   pub entries_none : (v : ℕ) → Entries P size 0 (replicate size v)
@@ -29,63 +30,22 @@ module _ (P : ℕ → ℕ → Type 0) (size : ℕ) where
   entries_all x h = record { long = x.long; each = λ i l. x.each i (omega arith) }
 
 -- THE COLUMNS OF RULE p
-module _ (arity scope slots columns : List ℕ) (made : RuleColumns arity scope slots columns) (p : ℕ) (small : p < 64) where
+module _ (heads : Heads) (slots columns : List ℕ) (made : RuleColumns heads slots columns) (p : ℕ) (small : p < 64) where
   -- entry k of the four
-  pub column_at : (k : ℕ) → k < 4 → get_or columns (4 * p + k) 0 ≡ column_call arity scope slots p k
+  pub column_at : (k : ℕ) → k < 4 → get_or columns (4 * p + k) 0 ≡ column_call heads slots p k
   column_at k h =
       let a : (4 * p + k) / 4 ≡ p = omega arith in
       let b : (4 * p + k) % 4 ≡ k = omega arith in
       made.each (4 * p + k) (omega arith) ∙ rw (a, b) refl
 
-  pub columns_of_lem : ColumnCalls arity scope slots p (columns_at columns p)
+  pub columns_of_lem : ColumnCalls heads slots p (columns_at columns p)
   columns_of_lem =
       let first : 4 * p + 0 ≡ 4 * p = omega arith in
       record {
         size = refl;
-        each = four (λ k. get_or (columns_at columns p) k 0 ≡ column_call arity scope slots p k) (rw first at (column_at 0 (omega arith))) (column_at 1 (omega arith))
+        each = four (λ k. get_or (columns_at columns p) k 0 ≡ column_call heads slots p k) (rw first at (column_at 0 (omega arith))) (column_at 1 (omega arith))
             (column_at 2 (omega arith)) (column_at 3 (omega arith));
       }
-
--- THE TABLE OF THE CALLS, call by call
-module _ (due opened held : List ℕ) where
-  pub table_none : (v : ℕ) → CallTable due opened held 0 (replicate 96 v)
-  table_none v = record { long = length-replicate 96 v; dues = λ c h. absurd (omega arith); opens = λ c h. absurd (omega arith); lays = λ c h. absurd (omega arith) }
-
-  module _ {n a b d : ℕ} {l : List ℕ} (x : CallTable due opened held n l) (h : n < 32) (is-due : a ≡ get_or due n 0) (are_open : b ≡ get_or opened n 0)
-      (is_held_lem : d ≡ get_or held n 0) where
-    first : List ℕ
-    first = set l n a
-
-    second : List ℕ
-    second = set first (32 + n) b
-
-    sizes : (length first ≡ 96) × (length second ≡ 96)
-    unfolding second first
-    sizes = (length-set l n a ∙ x.long, length-set (set l n a) (32 + n) b ∙ length-set l n a ∙ x.long)
-
-    stays : (j : ℕ) → (j ≡ n → ⊥) → (j ≡ 32 + n → ⊥) → (j ≡ 64 + n → ⊥) → get_or (set second (64 + n) d) j 0 ≡ get_or l j 0
-    unfolding second first
-    stays j p q r = get_or-set_other second (64 + n) j d 0 r ∙ get_or-set_other first (32 + n) j b 0 q ∙ get_or-set_other l n j a 0 p
-
-    pub table_more : CallTable due opened held (n + 1) (set (set (set l n a) (32 + n) b) (64 + n) d)
-    unfolding second first
-    table_more =
-        record {
-          long = length-set second (64 + n) d ∙ sizes.1;
-          dues = λ c lt.
-              ⊎_elim
-              (λ (e : c ≡ n).
-              rw e
-              (get_or-set_other second (64 + n) n d 0 (λ z. omega arith) ∙ get_or-set_other first (32 + n) n b 0 (λ z. omega arith)
-              ∙ get_or-set_same l n a 0 (rw x.long (omega arith)) ∙ is-due))
-              (λ ne. stays c ne (λ z. omega arith) (λ z. omega arith) ∙ x.dues c (omega (arith, ne))) (eq_or_ne c n);
-          opens = λ c lt.
-              ⊎_elim (λ (e : c ≡ n). rw e (get_or-set_other second (64 + n) (32 + n) d 0 (λ z. omega arith) ∙ get_or-set_same first (32 + n) b 0 (rw sizes.0 (omega arith)) ∙ are_open))
-              (λ ne. stays (32 + c) (λ z. omega arith) (λ z. ne (omega arith)) (λ z. omega arith) ∙ x.opens c (omega (arith, ne))) (eq_or_ne c n);
-          lays = λ c lt.
-              ⊎_elim (λ (e : c ≡ n). rw e (get_or-set_same second (64 + n) d 0 (rw sizes.1 (omega arith)) ∙ is_held_lem))
-              (λ ne. stays (64 + c) (λ z. omega arith) (λ z. omega arith) (λ z. ne (omega arith)) ∙ x.lays c (omega (arith, ne))) (eq_or_ne c n);
-        }
 
 -- THE WORDS OF ONE RULE, row by row
 module _ (rows : List ℕ) (p mask : ℕ) where

@@ -1,6 +1,6 @@
--- THE BOUNDS behind the checks that refuse nothing, n being their number: the buffers are of their lengths, and the numbers lie within them. Assumes nothing.
+-- THE BOUNDS behind the checks that refuse nothing, the buffers are of their lengths, and the numbers lie within them. Assumes nothing.
 use Rattle.std.specs.Prelude.{◌≡◌, false, ℕ, ◌+◌, ◌<◌, ◌≤◌}
-use Rattle.std.proofs.Common.{sym, ◌∙◌, arith, ltb-false, leb-false}
+use Rattle.std.proofs.Common.{sym, arith, ltb-false, leb-false}
 use Rattle.layout.specs.Memory.{State, lent_of}
 use Rattle.layout.specs.Places.{columns_of, rows_of}
 use Rattle.layout.specs.Sizes.{bad_lent?}
@@ -18,15 +18,14 @@ module _ (s : State) (p : ℕ) where
       let sizes = lent_sizes (lent_of s) lent in
       record { rows_size = sizes.0; killers_size = sizes.1; number = omega (arith, ltb-false 63 p number); few = few; column = column }
 
-  module _ {n : ℕ} where
-    -- row w, from its first column on
-    pub row_bounds : (w : ℕ) → n ≡ first_of (row_checks s p w) → n ≡ 0 → Searchable s.rows s.killers p (w + 1) 0
-    row_bounds w e z =
-        let clear = none_holds (row_checks s p w) tt (sym e ∙ z) in
-        searchable (clear refused.buffer_length) (clear refused.bad_number) (omega (arith, leb-false (rows_of s.value.heads.lengths p) w (clear refused.no_row))) (omega arith)
+  -- row w, from its first column on
+  pub row_bounds : (w : ℕ) → 0 ≡ first_of (row_checks s p w) → Searchable s.rows s.killers p (w + 1) 0
+  row_bounds w e =
+      let clear = none_holds (row_checks s p w) tt (sym e) in
+      searchable (clear refused.buffer_length) (clear refused.bad_number) (omega (arith, leb-false (rows_of s.value.heads.lengths p) w (clear refused.no_row))) (omega arith)
 
-    -- column k of every row of the rule
-    pub support_bounds : (k t : ℕ) → n ≡ first_of (support_checks s p k t) → n ≡ 0 → Searchable s.rows s.killers p (rows_of s.value.heads.lengths p) k
-    support_bounds k t e z =
-        let clear = none_holds (support_checks s p k t) tt (sym e ∙ z) in
-        searchable (clear refused.buffer_length) (clear refused.bad_number) (omega arith) (omega (arith, leb-false (columns_of s.value.heads.arity p) k (clear refused.no_column)))
+  -- column k of every row of the rule
+  pub support_bounds : (k t : ℕ) → 0 ≡ first_of (support_checks s p k t) → Searchable s.rows s.killers p (rows_of s.value.heads.lengths p) k
+  support_bounds k t e =
+      let clear = none_holds (support_checks s p k t) tt (sym e) in
+      searchable (clear refused.buffer_length) (clear refused.bad_number) (omega arith) (omega (arith, leb-false (columns_of s.value.heads.arity p) k (clear refused.no_column)))

@@ -27,15 +27,15 @@ pub weights_tested : (table : List ℕ) → T (weights? table) → Weights table
 weights_tested table passes =
     record { each = λ s h. eqb→eq (get_or table s 0) (2 ^ s) (every→ 32 (λ s. eqb (get_or table s 0) (2 ^ s)) passes s h) }
 
--- THE MASK, SLOT BY SLOT: w is the weight of slot n by the table, if it passes
+-- THE MASK, SLOT BY SLOT: slot n passes, and adds its weight by the table
 pub summed_none : (f : ℕ → Bool) → SummedTo f 0 0
 summed_none f = record { few = omega arith; is = refl }
 
-pub summed_more : {f : ℕ → Bool} {n m w : ℕ} {table : List ℕ} → SummedTo f n m → n < 32 → Weights table → w ≡ cond (f n) (get_or table n 0) 0 → SummedTo f (n + 1) (m + w)
-summed_more {f} {n} {m} {w} x h weights is =
-    record { few = omega arith; is = sum x.is (is ∙ ap (λ (v : ℕ). cond (f n) v 0) (weights.each n h)) ∙ sym (ap (λ (k : ℕ). mask_of k f) (add-one n)) }
+pub summed_more : {f : ℕ → Bool} {n m : ℕ} {table : List ℕ} → SummedTo f n m → n < 32 → Weights table → f n ≡ true → SummedTo f (n + 1) (m + get_or table n 0)
+summed_more {f} {n} {m} {table} x h weights passes =
+    record { few = omega arith; is = sum x.is (weights.each n h ∙ sym (ap (λ (b : Bool). cond b (2 ^ n) 0) passes)) ∙ sym (ap (λ (k : ℕ). mask_of k f) (add-one n)) }
   where
-    sum : {a b : ℕ} → m ≡ a → w ≡ b → m + w ≡ a + b
+    sum : {a b c d : ℕ} → a ≡ b → c ≡ d → a + c ≡ b + d
     sum p q = cc
 
 -- a mask of 32 slots or fewer fits 32 bits

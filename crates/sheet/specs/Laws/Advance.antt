@@ -2,17 +2,18 @@
 use Rattle.std.specs.Prelude.{◌≡◌, Bool, List, [], ◌++◌, ℕ, zero, suc, ◌+◌, ◌≤◌, ◌<◌, get_or}
 use Rattle.std.proofs.Math.Path.{refl}
 use Rattle.std.proofs.Math.Bool.{true, false, cond}
-use native.Mathlib.Omega.{arith}
+use Rattle.std.proofs.Common.{arith, leb-true, le-leb}
 use Rattle.std.proofs.Math.ListN.{length}
 use Rattle.std.proofs.Math.Dec.{leb}
-use borrow.Author.Tests.{leb-true, le-leb}
-use Rattle.model.specs.declared.answer.Answer.{Answer}
 use Rattle.model.specs.declared.command.Command.{Command}
 use Rattle.model.specs.declared.command.Read.{Read}
 use Rattle.model.specs.declared.command.Read.TheVariants as found
 use Rattle.model.specs.declared.command.Decoded.{Decoded}
+use Rattle.model.specs.declared.refusal.Refusal.{Refusal}
+use Rattle.model.specs.declared.refusal.Refusal.TheVariants as refused
 use Rattle.model.specs.Commands.{is_kind, body_size, command_at, counts_at, without, read_at}
 use Rattle.model.specs.Ledger.{Ledger, LedgerShape, kind_conditions, obey}
+use Rattle.model.specs.Promise.{Answer}
 use Rattle.model.specs.Sheet.{refused_line, file_refusal, up_to_refusal, reads_from, lines_from}
 use Rattle.model.proofs.Laws.Shapes.{effect_shape, counts_most}
 use Rattle.command_obey.specs.Obeys.{Obeys}
@@ -22,7 +23,7 @@ use Rattle.sheet.specs.Advance.{ledger_next, line_of, place_by, next_place, Held
 use Rattle.sheet.specs.Laws.Answers.{answer_line_lem, answer_short}
 use Rattle.layout.specs.Memory.{MarkedState}
 use Rattle.sheet_lines.proofs.Laws.Append.{append_none, append_same}
-use Rattle.model.specs.Refusals.{first_of}
+use Rattle.model.specs.Refusals.{number, first_of}
 
 -- nothing is read at the end
 pub reads_end : (n : ℕ) (s : List ℕ) (at : ℕ) → length s ≤ at → reads_from n s at ≡ []
@@ -30,9 +31,9 @@ reads_end zero s at h = refl
 reads_end (suc n) s at h = rw (le-leb (length s) at h) refl
 
 -- what the file refuses leaves the ledger alone
-refused_alone : (n : ℕ) (L : Ledger) (k m : ℕ) (ns : List ℕ) → obey n L (found.Refused k m) ns ≡ L
-refused_alone zero L k m ns = refl
-refused_alone (suc n) L k m ns = refl
+refused_alone : (n : ℕ) (L : Ledger) (k : ℕ) (e : Refusal) (ns : List ℕ) → obey n L (found.Refused k e) ns ≡ L
+refused_alone zero L k e ns = refl
+refused_alone (suc n) L k e ns = refl
 
 -- THE LINES THAT ARE LEFT: the round's own, and those of the rounds after it
 pub advance_lines : (L : Ledger) (input : List ℕ) (m : ℕ) (d : Decoded)
@@ -45,7 +46,7 @@ advance_lines L input m d = go d.read d.counts d.next
         ≡ line_of L (record { read = r; counts = ns; next = following })
         ++ lines_from (ledger_next L (record { read = r; counts = ns; next = following })) (reads_from m input (place_by r following (length input)))
     go (found.Command c) ns following = refl
-    go (found.Refused k n) ns following = rw (reads_end m input (length input) (omega arith)) refl
+    go (found.Refused k e) ns following = rw (reads_end m input (length input) (omega arith)) refl
     go found.End ns following = rw (reads_end m input (length input) (omega arith)) refl
 
 -- A ROUND READS ON, and not past the end
@@ -65,8 +66,8 @@ module _ (s : List ℕ) (at : ℕ) (h : at < length s) where
             counts = counts_at s (get_or s at 0) (at + 1);
             next = at + 1 + body_size (get_or s at 0);
           })
-          (without (found.Refused (get_or s at 0) 4) at))
-          (without (found.Refused (get_or s at 0) 3) at)) in
+          (without (found.Refused (get_or s at 0) refused.BodyLength) at))
+          (without (found.Refused (get_or s at 0) refused.UnknownKind) at)) in
           (at < place_by d.read d.next (length s)) × (place_by d.read d.next (length s) ≤ length s)
       go true e b c f = absurd (omega (arith, leb-true (length s) at e))
       go false e true true f = (omega arith, leb-true (at + 1 + body_size (get_or s at 0)) (length s) f)
@@ -84,7 +85,7 @@ advance_shape L s at shape = go (read_at s at).read (read_at s at).counts (count
 
     go : (r : Read) (ns : List ℕ) → length ns ≤ 32 → LedgerShape (obey (file_refusal L r ns) L r ns)
     go (found.Command c) ns most = obeyed c ns most (first_of (kind_conditions L c ns)) refl
-    go (found.Refused k n) ns most = rw (refused_alone n L k n ns) shape
+    go (found.Refused k e) ns most = rw (refused_alone (number e) L k e ns) shape
     go found.End ns most = shape
 
 -- what was obeyed on a state of some ledger has a short line
@@ -109,15 +110,15 @@ module _ (d : Decoded) (end : ℕ) (p : Progress) (before : MarkedState) (old : 
         represents = λ L shape rep. rw e (x.obeys.promise.obeyed L shape rep).represents;
       }
 
-  pub advanced_refused : (k n : ℕ) → d.read ≡ found.Refused k n → (new : List ℕ) → r.read ≡ end
-      → LineAppended (refused_line k n) p.written old new r.written → Advanced d end p before old r before new
+  pub advanced_refused : (k : ℕ) (f : Refusal) → d.read ≡ found.Refused k f → (new : List ℕ) → r.read ≡ end
+      → LineAppended (refused_line k (number f)) p.written old new r.written → Advanced d end p before old r before new
   unfolding ledger_next line_of next_place
-  advanced_refused k n e new next line =
+  advanced_refused k f e new next line =
       record {
         read = rw e next;
         short = line.short;
         line = λ L shape rep. rw e line.appended;
-        represents = λ L shape rep. rw (e, refused_alone n L k n d.counts) rep;
+        represents = λ L shape rep. rw (e, refused_alone (number f) L k f d.counts) rep;
       }
 
   pub advanced_end : d.read ≡ found.End → r.read ≡ end → r.written ≡ p.written → Advanced d end p before old r before old

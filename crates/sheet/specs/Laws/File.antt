@@ -1,9 +1,8 @@
 -- FROM THE FIRST ROUND TO THE LAST: the lines that are written and those that are left stay all of them, and after the last round those of the board are left.
 -- Assumes nothing.
 use Rattle.std.specs.Prelude.{◌≡◌, refl, Bool, true, false, cond, ℕ, zero, suc, ◌+◌, ◌/◌, ◌%◌, ◌≤◌, ◌<◌, length, eqb}
-use Rattle.std.proofs.Common.{sym, ◌∙◌, arith, length-append, eq-eqb, ne_eqb}
+use Rattle.std.proofs.Common.{sym, ◌∙◌, arith, length-append, eq-eqb, ne_eqb, List, [], ◌++◌, append_assoc}
 use Rattle.std.proofs.Math.Path.{ap}
-use mathlib.Core.List.{List, [], ◌++◌, append_assoc}
 use Rattle.model.specs.declared.command.Decoded.{Decoded}
 use Rattle.model.specs.Tests.{count_below}
 use Rattle.model.specs.Commands.{read_at}

@@ -1,13 +1,13 @@
 -- THE WHOLE SHEET from its parts: the lines of the input, and the last line behind them. Assumes nothing.
 use Rattle.std.specs.Prelude.{◌≡◌, refl, Bool, true, false, cond, List, [], ◌∷◌, ◌++◌, ℕ, ◌≤◌, ◌<◌, length, take, drop, ltb}
-use Rattle.std.proofs.Common.{sym, ap, ◌∙◌, arith, length-append, take-append-drop, length-take-le}
-use borrow.Author.Tests.{lt-ltb, le-ltb}
+use Rattle.std.proofs.Common.{sym, ap, ◌∙◌, arith, length-append, take-append-drop, take_at, lt-ltb, le-ltb, Ok, Err, Result}
+use Rattle.model.specs.declared.refusal.Refusal.{Refusal}
+use Rattle.model.specs.declared.refusal.Refusal.TheVariants as kind
 use Rattle.model.specs.Promise.{values_at}
+use Rattle.model.specs.Refusals.{number_of}
 use Rattle.model.specs.Sheet.{refused_line, end_line, sheet_of, input_most}
 use Rattle.sheet_lines.specs.Append.{Appended}
-use Rattle.sheet.specs.declared.answer.Sheet.{Sheet}
-use Rattle.sheet.specs.declared.answer.Sheet.TheVariants as answer
-use Rattle.sheet.specs.Promise.{sheet_number, sheet_values, SheetPromise}
+use Rattle.sheet.specs.Promise.{sheet_values, SheetPromise}
 use Rattle.sheet.specs.Line.{LineAppended}
 use Rattle.sheet.specs.File.{file_lines, input_lines, Lined}
 use Rattle.sheet_lines.proofs.Laws.Append.{append_more}
@@ -39,13 +39,13 @@ module _ (bytes old new : List ℕ) (n : ℕ) (a : Appended bytes 0 old new n) w
 
 -- the promise where the buffer is too short, and where it is not
 module _ (input before : List ℕ) where
-  pub sheet_refused : length before < sheet_most → SheetPromise input before (answer.Refused refused.buffer_length) before
+  pub sheet_refused : length before < sheet_most → SheetPromise input before (Err kind.BufferLength) before
   sheet_refused short =
       let e = lt-ltb (length before) sheet_most short in
       record { number = rw e refl; values = rw e refl; bytes = rw e refl }
 
   pub sheet_written : (mid after : List ℕ) (place n : ℕ) → sheet_most ≤ length before → Lined (input_lines input) before mid place → Appended end_line place mid after n
-      → SheetPromise input before (answer.Written n) after
+      → SheetPromise input before (Ok n) after
   unfolding input_lines file_lines
   sheet_written mid after place n room lined last =
       let e = le-ltb (length before) sheet_most room in
@@ -56,18 +56,23 @@ module _ (input before : List ℕ) where
         bytes = rw e (written_start (sheet_of input) before after n a);
       }
 
--- WHAT IS WRITTEN LIES IN THE BUFFER, for whoever calls
-module _ {input before : List ℕ} {given : Sheet} {after : List ℕ} (p : SheetPromise input before given after) {n : ℕ} (is : given ≡ answer.Written n) where
-  pub written_fits : n ≤ length after
-  written_fits = go (ltb (length before) sheet_most) (ap sheet_number (sym is) ∙ p.number) (ap sheet_values (sym is) ∙ p.values) p.bytes
+head_same : (m n : ℕ) → m ∷ [] ≡ n ∷ [] → m ≡ n
+head_same m n e = cc
+
+-- WHAT IS WRITTEN LIES IN THE BUFFER and is the sheet, for whoever calls
+module _ {input before : List ℕ} {given : Result ℕ Refusal} {after : List ℕ} (p : SheetPromise input before given after) {n : ℕ} (is : given ≡ Ok n) where
+  written : (n ≡ length (sheet_of input)) × (after ≡ sheet_of input ++ drop (length (sheet_of input)) before)
+  written = go (ltb (length before) sheet_most) (ap (λ (r : Result ℕ Refusal). number_of r) (sym is) ∙ p.number) (ap sheet_values (sym is) ∙ p.values) p.bytes
     where
-      fits : (sheet : List ℕ) → n ∷ [] ≡ length sheet ∷ [] → after ≡ sheet ++ drop (length sheet) before → n ≤ length after
-      fits sheet v b = let same : n ≡ length sheet = cc in omega (arith, ap length b, length-append sheet (drop (length sheet) before))
-
       go : (short : Bool) → ◌≡◌ {A = ℕ} 0 (cond short 1 0) → n ∷ [] ≡ values_at (cond short 1 0) (length (sheet_of input) ∷ [])
-          → after ≡ cond short before (sheet_of input ++ drop (length (sheet_of input)) before) → n ≤ length after
+          → after ≡ cond short before (sheet_of input ++ drop (length (sheet_of input)) before)
+          → (n ≡ length (sheet_of input)) × (after ≡ sheet_of input ++ drop (length (sheet_of input)) before)
       go true e v b = absurd (omega arith)
-      go false e v b = fits (sheet_of input) v b
+      go false e v b = (head_same n (length (sheet_of input)) v, b)
 
-  pub written_part : n ≡ length (take n after)
-  written_part = sym (length-take-le n after written_fits)
+  pub written_fits : n ≤ length after
+  written_fits = omega (arith, written.0, ap length written.1, length-append (sheet_of input) (drop (length (sheet_of input)) before))
+
+  pub written_bytes : take n after ≡ sheet_of input
+  written_bytes =
+      ap (take n) written.1 ∙ take_at (sheet_of input) (drop (length (sheet_of input)) before) n (sym written.0)

@@ -1,13 +1,12 @@
--- The loop has found no 0 among the counts that it passed.
-use native.Mathlib.Omega.{arith}
-use lib.ListN.{get_or-eq_default}
-use Rattle.sheet_lines.proofs.Laws.Counts.{first_zero}
+-- The first 0 stands behind the counts of the calls.
+use Rattle.std.proofs.Common.{◌∙◌, arith, rules, tests, eqb}
+use Rattle.std.proofs.lemmas.Iterator.{YieldsList-from_slice}
+use Rattle.std.proofs.lemmas.Iterator.Search.{position_from_yields_List}
+use Rattle.sheet_lines.proofs.Laws.Counts.{zero_found}
 use Rattle.sheet_lines.proofs.call_count.Goals as goal
-
-pub returns-then-counts-n-eq0 : goal.returns-then-counts-n-eq0
-returns-then-counts-n-eq0 c =
-    first_zero c.args.counts.now c.loop-n.n c.loop-n.invariant.1 c.if-counts-n-eq0.true
 
 pub returns : goal.returns
 returns c =
-    first_zero c.args.counts.now 32 (λ j lt. c.loop-n.invariant.1 j (omega arith)) (get_or-eq_default c.args.counts.now 0 (omega arith))
+    c.unwrap_or.ensures
+    ∙ zero_found c.args.counts.now c.position.result (omega arith)
+    (position_from_yields_List (λ n. eqb n 0) _ _ _ c.position.ensures.ran (YieldsList-from_slice c.args.counts.now cc) (λ x b q k. search (rules, tests)))

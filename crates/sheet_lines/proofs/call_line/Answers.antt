@@ -1,18 +1,16 @@
 -- The three calls write the parts of the line, and there is room for each after the ones before it.
-use native.Mathlib.Omega.{arith}
-use borrow.Author.Rules.{rules}
 use Rattle.sheet_lines.proofs.Laws.Append.{append_more, append_same, room_parts, room_first, room_rest}
 use Rattle.sheet_lines.proofs.Laws.Calls.{slot_parts}
 use Rattle.sheet_lines.proofs.call_line.Goals as goal
 
-pub write_start-numbered-requires : goal.write_start-numbered-requires
-write_start-numbered-requires c =
-    record { room = room_first (room_parts (slot_parts c.args.slots.now c.args.c) c.requires.room); n_lt_decimal_end = omega arith }
+pub write_start-numbered-requires-clause-room : goal.write_start-numbered-requires-clause-room
+write_start-numbered-requires-clause-room c =
+    room_first (room_parts (slot_parts c.args.slots.now c.args.c) c.requires.room)
 
-pub call_slots-listed-requires : goal.call_slots-listed-requires
-call_slots-listed-requires c =
+pub call_slots-listed-requires-clause-room : goal.call_slots-listed-requires-clause-room
+call_slots-listed-requires-clause-room c =
     let room = room_parts (slot_parts c.args.slots.now c.args.c) c.requires.room in
-    record { room = room_first (room_rest room c.write_start-numbered.ensures); slots_len = search rules; c_bound = search rules }
+    room_first (room_rest room c.write_start-numbered.ensures)
 
 pub write_byte-requires : goal.write_byte-requires
 write_byte-requires c =

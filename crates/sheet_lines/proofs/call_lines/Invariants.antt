@@ -1,12 +1,8 @@
 -- One call's line more is written in each round.
-use Prim.Native.Nat.{◌≤◌, ◌-◌}
 use Rattle.sheet_lines.specs.Append.{Appended}
 use Rattle.sheet_lines.specs.Joined.{joined}
 use Rattle.sheet_lines.specs.Calls.{slot_line}
 use Rattle.sheet_lines.proofs.call_lines.Given as goal
 
 abbrev pub invariant-loop-c : goal.invariant-loop-c
-invariant-loop-c l = (l.c ≤ l.n) × Appended (joined (slot_line l.slots) l.c) l.at l.initial.out l.out l.next
-
-abbrev pub decreases-loop-c : goal.decreases-loop-c
-decreases-loop-c l = l.n - l.c
+invariant-loop-c l = Appended (joined (slot_line l.slots) l.c) l.at l.initial.out l.out l.next

@@ -1,6 +1,5 @@
 -- By the test the call is cancelled, and a dash is written, or the numbers of its open slots are.
-use mathlib.Core.Path.{sym}
-use borrow.Author.Rules.{rules}
+use Rattle.std.proofs.Common.{sym}
 use Rattle.sheet_lines.proofs.Laws.Append.{append_same, room_same}
 use Rattle.sheet_lines.proofs.Laws.Calls.{dash, no_dash}
 use Rattle.sheet_lines.proofs.call_slots.Goals as goal
@@ -9,9 +8,9 @@ pub write_bytes-requires : goal.write_bytes-requires
 write_bytes-requires c =
     room_same (dash c.args.slots.now c.args.c c.if-slots-c.true) c.requires.room
 
-pub open_slots-requires : goal.open_slots-requires
-open_slots-requires c =
-    record { room = room_same (no_dash c.args.slots.now c.args.c c.if-slots-c.false) c.requires.room; slots_len = search rules; c_bound = search rules }
+pub open_slots-requires-clause-room : goal.open_slots-requires-clause-room
+open_slots-requires-clause-room c =
+    room_same (no_dash c.args.slots.now c.args.c c.if-slots-c.false) c.requires.room
 
 pub returns-then-slots-c : goal.returns-then-slots-c
 returns-then-slots-c c =

@@ -1,13 +1,12 @@
 -- By the test the slot is open, and its number is written, or is not.
-use mathlib.Core.Path.{sym}
-use native.Mathlib.Omega.{arith}
+use Rattle.std.proofs.Common.{sym}
 use Rattle.sheet_lines.proofs.Laws.Append.{append_none, append_same, room_same}
 use Rattle.sheet_lines.proofs.Laws.Calls.{open_number_lem, no_number}
 use Rattle.sheet_lines.proofs.open_slot.Goals as goal
 
-pub write_spaced-requires : goal.write_spaced-requires
-write_spaced-requires c =
-    record { room = room_same (open_number_lem c.args.slots.now c.args.c c.args.s c.if-slots-c.true) c.requires.room; n_lt_decimal_end = omega arith }
+pub write_spaced-requires-clause-room : goal.write_spaced-requires-clause-room
+write_spaced-requires-clause-room c =
+    room_same (open_number_lem c.args.slots.now c.args.c c.args.s c.if-slots-c.true) c.requires.room
 
 pub returns-then-slots-c : goal.returns-then-slots-c
 returns-then-slots-c c =

@@ -1,6 +1,5 @@
 -- One slot more is written in each round.
-use mathlib.Core.Path.{sym}
-use native.Mathlib.Omega.{arith}
+use Rattle.std.proofs.Common.{sym, arith}
 use Rattle.sheet_lines.specs.Calls.{open_number}
 use Rattle.sheet_lines.proofs.Laws.Append.{append_same, room_same}
 use Rattle.sheet_lines.proofs.Laws.Calls.{open_joined}
@@ -8,16 +7,16 @@ use Rattle.sheet_lines.proofs.Laws.Joined.{joined_none, joined_more, joined_at, 
 use Rattle.sheet_lines.proofs.open_slots.Goals as goal
 
 pub loop-s-init : goal.loop-s-init
-loop-s-init c = (omega arith, joined_none _ _ _)
+loop-s-init c = joined_none _ _ _
 
-pub open_slot-next-requires : goal.open_slot-next-requires
-open_slot-next-requires c =
+pub open_slot-next-requires-clause-room : goal.open_slot-next-requires-clause-room
+open_slot-next-requires-clause-room c =
     let room = room_same (sym (open_joined c.args.slots.now c.args.c)) c.requires.room in
-    record { room = joined_room (open_number c.args.slots.now c.args.c) {n = 32} (omega arith) room c.loop-s.invariant.1; slots_len = c.requires.slots_len; c_bound = omega arith; s_bound = omega arith }
+    joined_room (open_number c.args.slots.now c.args.c) {n = 32} (omega arith) room c.loop-s.invariant
 
 pub loop-s-preserved : goal.loop-s-preserved
 loop-s-preserved c =
-    (omega arith, joined_more _ c.loop-s.invariant.1 c.open_slot-next.ensures)
+    joined_more _ c.loop-s.invariant c.open_slot-next.ensures
 
 pub returns : goal.returns
-returns c = append_same (open_joined _ _) (joined_at _ c.loop-s.invariant.1 (omega arith) (omega arith))
+returns c = append_same (open_joined _ _) (joined_at _ c.loop-s.invariant (omega arith) (omega arith))

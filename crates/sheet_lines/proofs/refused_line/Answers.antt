@@ -1,5 +1,5 @@
 -- The three calls write the parts of the line, and there is room for each after the ones before it.
-use mathlib.Core.List.{[], ◌∷◌}
+use Rattle.std.proofs.Common.{[], ◌∷◌}
 use Rattle.sheet_lines.proofs.Laws.Append.{append_more, append_same}
 use Rattle.sheet_lines.proofs.Laws.Lines.{line_parts_lem}
 use Rattle.sheet_lines.proofs.refused_line.Goals as goal

@@ -1,6 +1,5 @@
 -- The space and the number's decimal are the whole of it.
-use mathlib.Core.List.{append-nil}
-use mathlib.Core.Path.{sym}
+use Rattle.std.proofs.Common.{append-nil, sym}
 use Rattle.model.specs.Sheet.{decimal}
 use Rattle.sheet_lines.proofs.Laws.Append.{append_more, append_same}
 use Rattle.sheet_lines.proofs.write_spaced.Goals as goal

@@ -85,9 +85,9 @@ module _ (L : Ledger) (s : State) (shape : LedgerShape L) (rep : Represents L s)
       (lt→ltb k (get_or s.value.heads.arity p 0) (omega arith))
       (→eqb (call_of s.value.heads.scope p k) c (call_held p k lp lk ∙ found.2)))))
 
-  rules_held : (c : ℕ) → columns_on s.value.heads.arity s.value.heads.scope 256 c % 256 ≡ count_below 64 (rule_on? L.board c)
+  rules_held : (c : ℕ) → columns_on s.value.heads 256 c % 256 ≡ count_below 64 (rule_on? L.board c)
   rules_held c =
-      byte (columns_on s.value.heads.arity s.value.heads.scope 256 c) (count_below 64 (rule_on? L.board c))
+      byte (columns_on s.value.heads 256 c) (count_below 64 (rule_on? L.board c))
       (count_fours 64 (head_on? c) (rule_on? L.board c) (rule_held c))
       (count_bound 64 (rule_on? L.board c))
     where
@@ -127,12 +127,12 @@ module _ (L : Ledger) (s : State) (shape : LedgerShape L) (rep : Represents L s)
 
   counted_is : (c : ℕ) → c < records_length → counted_record s.value.heads s.slots c ≡ record_of L.board c
   counted_is c lc =
-      ap (λ (b : Bool). cond b no_summary (figures_of s.slots c (get_or s.value.heads.counts c 0) (columns_on s.value.heads.arity s.value.heads.scope 256 c % 256)))
+      ap (λ (b : Bool). cond b no_summary (figures_of s.slots c (get_or s.value.heads.counts c 0) (columns_on s.value.heads 256 c % 256)))
       (no_call_lem L.board shape.board s.value.heads rep.stored.headed c)
       ∙ ⊎_elim
       (λ lt.
       rw (lt-leb (length L.board.counts) c lt)
-      (figures_same (count_below 32 (open? s.slots c)) (slots_left s.slots c (get_or s.value.heads.counts c 0) - count_below 32 (open? s.slots c)) (columns_on s.value.heads.arity s.value.heads.scope 256 c % 256)
+      (figures_same (count_below 32 (open? s.slots c)) (slots_left s.slots c (get_or s.value.heads.counts c 0) - count_below 32 (open? s.slots c)) (columns_on s.value.heads 256 c % 256)
       (count_below 32 (in? (open_of L.board) c)) (count_below 32 (closed? L.board (open_of L.board) c)) (count_below 64 (rule_on? L.board c))
       (opened_held c lc) (struck_held c lc) (rules_held c)))
       (λ le. rw (le-leb (length L.board.counts) c le) (sym (absent_zero L.board shape.board c le lc)))

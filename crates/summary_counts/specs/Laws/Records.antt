@@ -35,7 +35,7 @@ records_more {slots} {counts} {on} {n} {table} {r} ln x is =
     }
 
 pub records_counted : {heads : Heads} {slots on : List ℕ} {n : ℕ} {table : List Summary}
-    → Columns heads.arity heads.scope on → records_length ≤ n → RecordsTo slots heads.counts on n table → Counted heads slots table
+    → Columns heads on → records_length ≤ n → RecordsTo slots heads.counts on n table → Counted heads slots table
 records_counted {heads} {slots} columns g x =
     record {
       size = x.size;

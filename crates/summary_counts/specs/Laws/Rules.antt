@@ -1,10 +1,11 @@
 -- THE COLUMNS ON EACH CALL, as the code adds them: column by column and rule by rule. Assumes nothing.
 use Rattle.std.specs.Prelude.{◌≡◌, refl, Bool, true, false, cond, List, ℕ, ◌+◌, ◌*◌, ◌<◌, ◌≤◌, length, get_or, set, replicate}
-use Rattle.std.proofs.Common.{sym, ap, ap₂, ◌∙◌, ⊎_elim, arith, length-set, get_or-set_same, get_or-set_other, Fits, lt-ltb, le-ltb, eq-eqb, ne_eqb}
+use Rattle.std.proofs.Common.{sym, ap, ap₂, ◌∙◌, ⊎_elim, arith, add-one, length-set, get_or-set_same, get_or-set_other, Fits, lt-ltb, le-ltb, eq-eqb, ne_eqb}
 use Rattle.std.proofs.lemmas.List.{length-replicate, get_or-replicate}
 use Rattle.std.specs.Int.{w32}
 use Rattle.tables.specs.Laws.Facts.{eq_or_ne}
 use Rattle.layout.specs.Places.{call_of}
+use Rattle.layout.specs.declared.value.Heads.{Heads}
 use Rattle.model.specs.Tests.{count_below}
 use Rattle.model.proofs.Laws.Tests.{count_bound, count_row}
 use Rattle.summary_counts.specs.Counted.{column_on?, columns_on}
@@ -49,50 +50,43 @@ most_within most le = record { size = most.size; each = λ c l. omega (arith, mo
 pub most_fits : {m : ℕ} {on : List ℕ} (c : ℕ) → AtMost m on → c < 32 → m < 256 → Fits w32 (get_or on c 0 + 1)
 most_fits c most l few = omega (arith, most.each c l)
 
--- THE FOUR COLUMNS of a rule
-pub added_four : {scope : List ℕ} {q n : ℕ} {a b d e f : List ℕ} → ColumnAdded scope q n 0 a b → ColumnAdded scope q n 1 b d → ColumnAdded scope q n 2 d e → ColumnAdded scope q n 3 e f
-    → ColumnsAdded scope q n a f
-added_four {scope} {q} {n} {a} {b} {d} {e} {f} w x y z =
-    record {
-      size = z.size ∙ y.size ∙ x.size ∙ w.size;
-      each = λ c l.
-          sum (get_or a c 0) (get_or b c 0) (get_or d c 0) (get_or e c 0) (get_or f c 0)
-          (cond (column_on? scope q n c 0) 1 0) (cond (column_on? scope q n c 1) 1 0) (cond (column_on? scope q n c 2) 1 0) (cond (column_on? scope q n c 3) 1 0)
-          (w.each c l) (x.each c l) (y.each c l) (z.each c l);
-    }
-  where
-    sum : (a b d e f i j k l : ℕ) → b ≡ a + i → d ≡ b + j → e ≡ d + k → f ≡ e + l → f ≡ a + (0 + i + j + k + l)
-    sum a b d e f i j k l p q r s = omega arith
+-- THE COLUMNS of a rule, one after the other
+pub columns_none : (scope : List ℕ) (q n : ℕ) (on : List ℕ) → ColumnsAdded scope q n 0 on on
+columns_none scope q n on = record { size = refl; each = λ c l. omega arith }
 
-pub added_bare : (scope : List ℕ) (q n : ℕ) (on : List ℕ) → n ≡ 0 → ColumnsAdded scope q n on on
-added_bare scope q n on none =
-    added_four {scope = scope} {q = q} {n = n} (added_none on (omega arith)) (added_none on (omega arith)) (added_none on (omega arith)) (added_none on (omega arith))
+pub columns_more : {scope : List ℕ} {q n m : ℕ} {old mid new : List ℕ} → ColumnsAdded scope q n m old mid → ColumnAdded scope q n m mid new → ColumnsAdded scope q n (m + 1) old new
+columns_more {scope} {q} {n} {m} {old} {mid} {new} so_far added =
+    record {
+      size = added.size ∙ so_far.size;
+      each = λ c l. rw add-one (omega (arith, so_far.each c l, added.each c l));
+    }
+
+-- none of them counts where the arity is 0
+pub added_bare : (scope : List ℕ) (q n : ℕ) (on : List ℕ) → n ≡ 0 → ColumnsAdded scope q n 4 on on
+added_bare scope q n on none = record { size = refl; each = λ c l. rw none (omega arith) }
 
 -- THE RULES, one after the other
-pub on_calls_none : (arity scope : List ℕ) → ColumnsTo arity scope 0 (replicate 32 0)
-on_calls_none arity scope = record { size = length-replicate {A = ℕ} 32 0; each = λ c l. get_or-replicate {A = ℕ} 32 c 0 0 l }
+pub on_calls_none : (h : Heads) → ColumnsTo h 0 (replicate 32 0)
+on_calls_none h = record { size = length-replicate {A = ℕ} 32 0; each = λ c l. get_or-replicate {A = ℕ} 32 c 0 0 l }
 
-pub on_calls_more : {arity scope : List ℕ} {q n : ℕ} {old new : List ℕ} → ColumnsTo arity scope q old → n ≡ get_or arity q 0 → ColumnsAdded scope q n old new → ColumnsTo arity scope (q + 1) new
-on_calls_more {arity} {scope} {q} {n} {old} {new} so_far is added =
+pub on_calls_more : {h : Heads} {q n : ℕ} {old new : List ℕ} → ColumnsTo h q old → n ≡ get_or h.arity q 0 → ColumnsAdded h.scope q n 4 old new → ColumnsTo h (q + 1) new
+on_calls_more {h} {q} {n} {old} {new} so_far is added =
     let size : 4 * (q + 1) ≡ 4 * q + 4 = omega arith in
     record {
       size = added.size ∙ so_far.size;
       each = λ c l.
           added.each c l
-          ∙ ap₂ (λ (a b : ℕ). a + b) (so_far.each c l) (ap (λ (m : ℕ). count_below 4 (column_on? scope q m c)) is)
-          ∙ sym (count_row 4 q (λ p k. column_on? scope p (get_or arity p 0) c k) (omega arith))
-          ∙ sym (ap (λ (m : ℕ). columns_on arity scope m c) size);
+          ∙ ap₂ (λ (a b : ℕ). a + b) (so_far.each c l) (ap (λ (m : ℕ). count_below 4 (column_on? h.scope q m c)) is)
+          ∙ sym (count_row 4 q (λ p k. column_on? h.scope p (get_or h.arity p 0) c k) (omega arith))
+          ∙ sym (ap (λ (m : ℕ). columns_on h m c) size);
     }
 
-pub on_calls_at : {arity scope : List ℕ} {q m : ℕ} {on : List ℕ} → ColumnsTo arity scope q on → q ≤ m → m ≤ q → ColumnsTo arity scope m on
-on_calls_at {q = q} {m = m} x le ge = let e : m ≡ q = omega arith in rw e x
-
 -- the columns of q rules are four for each at most
-pub on_calls_most : {arity scope : List ℕ} {q : ℕ} {on : List ℕ} → ColumnsTo arity scope q on → AtMost (4 * q) on
-on_calls_most {arity} {scope} {q} {on} x =
+pub on_calls_most : {h : Heads} {q : ℕ} {on : List ℕ} → ColumnsTo h q on → AtMost (4 * q) on
+on_calls_most {h} {q} {on} x =
     record {
       size = x.size;
-      each = λ c l. below (get_or on c 0) (columns_on arity scope (4 * q) c) (x.each c l) (count_bound (4 * q) _);
+      each = λ c l. below (get_or on c 0) (columns_on h (4 * q) c) (x.each c l) (count_bound (4 * q) _);
     }
   where
     below : (a b : ℕ) → a ≡ b → b ≤ 4 * q → a ≤ 4 * q

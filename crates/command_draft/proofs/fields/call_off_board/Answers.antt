@@ -1,11 +1,12 @@
--- The loop has found no call off the board among those that it passed.
-use mathlib.Core.Path.{sym, ◌∙◌}
-use native.Mathlib.Omega.{arith}
-use Rattle.model.proofs.Laws.Search.{some_found}
-use Rattle.tables.specs.Laws.Facts.{any_default}
+-- The search finds a call off the board among the first n.
+use Rattle.std.proofs.Common.{◌∙◌, take, rules, tests, arith}
+use Rattle.std.proofs.lemmas.Iterator.{YieldsList-from_slice}
+use Rattle.std.proofs.lemmas.Iterator.Search.{any_from_yields_List}
+use Rattle.command_draft.specs.Fields.{off_board?}
+use Rattle.command_draft.proofs.Laws.Lists.{any_first}
 use Rattle.command_draft.proofs.fields.call_off_board.Goals as goal
 
-pub returns-then-off_board : goal.returns-then-off_board
-returns-then-off_board c =
-    let same = any_default 255 0 c.args.scope.now c.loop-k.k (omega arith) in
-    some_found c.loop-k.invariant.1 c.args.n (omega arith) (rw same (sym c.off_board.ensures ∙ c.if-off_board.true))
+pub returns : goal.returns
+returns c =
+    any_from_yields_List (off_board? c.args.counts.now) _ _ _ c.any.ensures.ran (YieldsList-from_slice (take c.args.n c.args.scope.now) cc) (λ x b q k. search (rules, tests))
+    ∙ any_first (off_board? c.args.counts.now) 255 c.args.n c.args.scope.now (omega arith)

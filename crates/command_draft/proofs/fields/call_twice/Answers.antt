@@ -1,8 +1,12 @@
--- The loop has found no call that is there before among those that it passed.
-use native.Mathlib.Omega.{arith}
-use Rattle.model.proofs.Laws.Search.{some_found_by}
+-- The search finds a call among the first n that is there before.
+use Rattle.std.proofs.Common.{◌∙◌, rules, tests, arith}
+use Rattle.std.proofs.lemmas.Iterator.{YieldsList-from_range}
+use Rattle.std.proofs.lemmas.Iterator.Search.{any_from_yields_List}
+use Rattle.command_draft.specs.Fields.{call_before?}
+use Rattle.command_draft.proofs.Laws.Lists.{any_below}
 use Rattle.command_draft.proofs.fields.call_twice.Goals as goal
 
-pub returns-then-call_before : goal.returns-then-call_before
-returns-then-call_before c =
-    some_found_by c.loop-k.invariant.1 c.args.n (omega arith) c.call_before.ensures c.if-call_before.true
+pub returns : goal.returns
+returns c =
+    any_from_yields_List (call_before? c.args.scope.now) _ _ _ c.any.ensures.ran (YieldsList-from_range 0 c.args.n c.args.n (cc) (omega arith)) (λ x b q k. search (rules, tests))
+    ∙ any_below (call_before? c.args.scope.now) c.args.n

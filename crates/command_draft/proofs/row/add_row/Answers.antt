@@ -4,4 +4,4 @@ use Rattle.command_draft.proofs.Laws.Drafts.{row_right}
 use Rattle.command_draft.proofs.row.add_row.Goals as goal
 
 pub returns : goal.returns
-returns c slots = rw c.outcome_of.ensures (redraft_promise (row_right _ slots _ c.redraft-next.ensures))
+returns c slots = rw c.outcome_of.ensures (redraft_promise _ (row_right _ slots _ _ c.redraft-next.ensures))

@@ -6,15 +6,11 @@ use Rattle.command_mark.proofs.back.back_unchecked.Goals as goal
 
 pub back_outcome-requires : goal.back_outcome-requires
 back_outcome-requires c =
-    let counted = c in
-    let a = counted.args in
-    between_few {before = a.slots.now} {after = marked_slots a.marks.now a.name} counted.changes_back-changes.ensures
+    between_few {before = c.args.slots.now} {after = marked_slots c.args.marks.now c.from-place.result} c.changes_back-changes.ensures
 
 pub returns : goal.returns
 returns c =
-    let back = c in
-    let counted = back in
-    let found = counted in
-    let a = found.args in
-    brings_back a.name a.names.now a.marks.now a.slots.now found.heads_under-heads.ensures counted.changes_back-changes.ensures back.bring_back.ensures
-    c.back_outcome.ensures
+    let a = c.args in
+    rw c.from-place.ensures at
+    (brings_back c.from-place.result a.names.now a.marks.now a.slots.now c.heads_under-heads.ensures c.changes_back-changes.ensures c.bring_back.ensures
+    c.back_outcome.ensures)

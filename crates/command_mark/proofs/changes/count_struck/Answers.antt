@@ -1,7 +1,7 @@
 -- One slot more is counted with each round.
-use native.Mathlib.Omega.{arith}
+use Rattle.std.proofs.Common.{arith}
 use Rattle.model.proofs.Laws.Counts.{count_to_at}
 use Rattle.command_mark.proofs.changes.count_struck.Goals as goal
 
 pub returns : goal.returns
-returns c = count_to_at {k = 1024} c.loop-i.invariant.1 (omega arith) (omega arith)
+returns c = count_to_at {k = 1024} c.loop-i.invariant (omega arith) (omega arith)

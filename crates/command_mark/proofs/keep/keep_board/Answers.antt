@@ -3,18 +3,16 @@ use Rattle.layout.specs.Memory.{marked_memory}
 use Rattle.command_mark.specs.Laws.Kinds.{keep_refused, keep_accepted, name_known}
 use Rattle.command_mark.proofs.keep.keep_board.Goals as goal
 
-pub returns-then-n-ne0 : goal.returns-then-n-ne0
-returns-then-n-ne0 c =
-    let tested = c in
-    let a = tested.args in
-    rw c.refused.ensures
-    (keep_refused a.name (marked_memory a.value a.names.now a.rows.now a.killers.now a.slots.now a.marks.now) _ tested.if-n-ne0.true tested.check_keep-n.ensures)
+pub returns-in-Err : goal.returns-in-Err
+returns-in-Err c =
+    let a = c.args in
+    rw c.refused.ensures (keep_refused a.name (marked_memory a.value a.names.now a.rows.now a.killers.now a.slots.now a.marks.now) _ c.in-Err.ensures)
+
+pub keep_unchecked-requires : goal.keep_unchecked-requires
+keep_unchecked-requires c = name_known c.args.value.heads.counts c.args.name c.in_default.ensures
 
 pub returns : goal.returns
 returns c =
-    let kept = c in
-    let tested = kept in
-    let checked = tested.check_keep-n.ensures in
-    let a = tested.args in
-    keep_accepted a.name (marked_memory a.value a.names.now a.rows.now a.killers.now a.slots.now a.marks.now) _ _ _ tested.if-n-ne0.false checked
-    (name_known a.value.heads.counts a.name _ tested.if-n-ne0.false checked) kept.keep_unchecked.ensures
+    let a = c.args in
+    keep_accepted a.name (marked_memory a.value a.names.now a.rows.now a.killers.now a.slots.now a.marks.now) _ _ c.in_default.ensures
+    (name_known a.value.heads.counts a.name c.in_default.ensures) c.keep_unchecked.ensures

@@ -5,4 +5,4 @@ use Rattle.filter_relax.proofs.closure.expand.Goals as goal
 
 pub returns : goal.returns
 returns c =
-    expanded (rules_in c.args.rows.now c.args.arity.now c.args.scope.now c.args.lengths.now) _ _ _ _ _ _ c.requires.rules_on c.requires.q_bound c.requires.has c.requires.visited_len c.scan_rule-changed.ensures c.enqueue.ensures
+    expanded (rules_in c.args.rows.now c.args.heads.now) _ _ _ _ _ _ c.requires.rules_on c.requires.q_bound c.requires.has (search) c.scan_rule-changed.ensures c.enqueue.ensures

@@ -1,7 +1,6 @@
 -- The visited slots of the calls that are not left are reopened and counted; the lowest call of those left is next.
-use native.Mathlib.Omega.{arith}
-use lib.Count.{count_trailing_zeros}
-use lib.ListN.{get_or}
+use Rattle.std.specs.Int.Count.{count_trailing_zeros}
+use Rattle.std.proofs.Common.{arith, get_or}
 use Rattle.filter_relax.proofs.Laws.Reopen.{call_le, calls_more, calls_done, total_few}
 use Rattle.filter_relax.proofs.reopen.reopen_calls.Goals as goal
 
@@ -15,4 +14,4 @@ loop-left-preserved c =
 
 pub returns : goal.returns
 returns c =
-    calls_done _ c.args.visited.now c.requires.covers c.loop-left-test.false c.loop-left.invariant
+    calls_done _ c.args.visited.now c.requires c.loop-left-test.false c.loop-left.invariant

@@ -1,5 +1,5 @@
 -- The ones of a mask are the flags of it that are set.
-use mathlib.Core.Path.{sym}
+use Rattle.std.proofs.Common.{sym}
 use Rattle.tables.specs.Laws.Flags.{count_flags}
 use Rattle.filter_relax.proofs.reopen.slots_in.Goals as goal
 

@@ -1,5 +1,5 @@
 -- The killer's byte goes where the row's killer bit is not 0, which says that the killer's slot is in the sets.
-use native.Mathlib.Omega.{arith}
+use Rattle.std.proofs.Common.{arith}
 use Rattle.tables.specs.Laws.Sweep.{one_set}
 use Rattle.filter_relax.proofs.Laws.Revive.{row_revived}
 use Rattle.filter_relax.proofs.revive.revive_row.Goals as goal

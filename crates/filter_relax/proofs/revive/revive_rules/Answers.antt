@@ -1,5 +1,5 @@
 -- The killers of the rules that are not left are treated; the lowest of those left is next.
-use native.Mathlib.Omega.{arith}
+use Rattle.std.proofs.Common.{arith}
 use Rattle.filter_relax.proofs.Laws.Revive.{rules_more, rules_done}
 use Rattle.filter_relax.proofs.revive.revive_rules.Goals as goal
 

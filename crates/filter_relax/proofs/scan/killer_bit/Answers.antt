@@ -5,7 +5,7 @@ use Rattle.filter_relax.proofs.scan.killer_bit.Goals as goal
 pub returns : goal.returns
 returns c =
     killer_bits _ _ _
-    c.where_killer.ensures
-    c.where_killer-2.ensures
-    c.where_killer-3.ensures
-    c.where_killer-4.ensures
+    c.set_where.ensures
+    c.set_where-2.ensures
+    c.set_where-3.ensures
+    c.set_where-4.ensures

@@ -1,5 +1,5 @@
 -- What is new is what the walk finds of the wanted.
-use native.Mathlib.Omega.{arith}
+use Rattle.std.proofs.Common.{arith}
 use Rattle.filter_relax.proofs.Laws.Scan.{found_wanted}
 use Rattle.filter_relax.proofs.scan.new_slots.Goals as goal
 

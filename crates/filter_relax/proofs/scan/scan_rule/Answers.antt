@@ -7,4 +7,4 @@ returns-then-all_empty c = scans_quiet _ _ _ _ _ _ c.cap-n.ensures (search) _ c.
 
 pub returns : goal.returns
 returns c =
-    scans_new _ _ _ _ _ _ c.cap-n.ensures c.requires.visited_len _ c.columns_wanted-wanted.ensures c.cap-m.ensures c.new_slots-new.ensures c.visit_columns.ensures
+    scans_new _ _ _ _ _ _ c.cap-n.ensures (search) _ c.columns_wanted-wanted.ensures c.cap-m.ensures c.new_slots-new.ensures c.visit_columns.ensures

@@ -1,5 +1,5 @@
 -- An empty mask visits nothing, another joins the mask of its call.
-use native.Mathlib.Omega.{arith}
+use Rattle.std.proofs.Common.{arith}
 use Rattle.filter_relax.proofs.Laws.Spread.{adds_zero, adds_mask}
 use Rattle.filter_relax.proofs.visit.visit_call.Goals as goal
 

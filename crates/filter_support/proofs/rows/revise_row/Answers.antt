@@ -1,5 +1,5 @@
 -- The row's slots, its killer, and what is found with it.
-use native.Mathlib.Omega.{arith}
+use Rattle.std.proofs.Common.{arith}
 use Rattle.filter_support.specs.Laws.Walk.{row_walked}
 use Rattle.filter_support.proofs.rows.revise_row.Goals as goal
 

@@ -1,10 +1,6 @@
 -- One row more is treated in each turn.
-use Prim.Native.Nat.{◌≤◌, ◌-◌}
 use Rattle.filter_support.specs.Walk.{Walked}
 use Rattle.filter_support.proofs.rows.revise_rows.Given as goal
 
 abbrev pub invariant-loop-w : goal.invariant-loop-w
-invariant-loop-w l = (l.w ≤ l.m) × Walked l.rows l.struck l.p l.w l.initial.killers l.killers l.found
-
-abbrev pub decreases-loop-w : goal.decreases-loop-w
-decreases-loop-w l = l.m - l.w
+invariant-loop-w l = Walked l.rows l.struck l.p l.w l.initial.killers l.killers l.found

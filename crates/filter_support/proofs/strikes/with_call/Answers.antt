@@ -1,5 +1,5 @@
 -- A call where some slots were struck joins the mask, and where none was the mask stays.
-use native.Mathlib.Omega.{arith}
+use Rattle.std.proofs.Common.{arith}
 use Rattle.filter_support.specs.Laws.Strikes.{call_joins}
 use Rattle.filter_support.proofs.strikes.with_call.Goals as goal
 

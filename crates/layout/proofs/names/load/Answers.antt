@@ -1,10 +1,11 @@
--- Each round reads the next byte; after the last all are read.
-use native.Mathlib.Omega.{arith}
-use Rattle.tables.specs.Laws.Fill.{filled_at}
-use Rattle.layout.specs.Laws.Names.{listed_is}
+-- The bytes are copied at once.
+use Rattle.std.proofs.Common.{◌≡◌, ◌+◌, ◌-◌, ◌∙◌, ℕ, ap, arith, take, drop}
+use Rattle.layout.specs.Laws.Names.{bytes_taken}
 use Rattle.layout.proofs.names.load.Goals as goal
 
 pub returns : goal.returns
-returns c =
-    let l = c.loop-i in
-    listed_is _ _ _ l.invariant.2.len (λ j h. filled_at _ _ _ _ l.invariant.2 j (omega arith))
+returns g c =
+    let names = c.args.names.now in
+    let at = c.args.at in
+    let e : at + g.row.N - at ≡ g.row.N = omega arith in
+    c.copy_from_slice.ensures.after ∙ ap (λ (k : ℕ). take k (drop at names)) e ∙ bytes_taken names at g.row.N (omega (arith, c.type_inv.names, c.requires))

@@ -1,5 +1,5 @@
 -- Each round writes the next byte of the name; after the last all are written.
-use native.Mathlib.Omega.{arith}
+use Rattle.std.proofs.Common.{arith}
 use Rattle.layout.specs.Laws.Names.{mark_written}
 use Rattle.layout.proofs.names.store_name.Goals as goal
 

@@ -1,11 +1,7 @@
 -- Each entry loses the rule in its round.
-use Prim.Native.Nat.{◌-◌, ◌≤◌}
 use Rattle.tables.specs.Sweep.{Swept}
 use Rattle.masks.specs.Laws.Rules.{Leaves}
 use Rattle.masks.proofs.rules.drop_rule.Given as goal
 
 abbrev pub invariant-loop-c : goal.invariant-loop-c
-invariant-loop-c l = (l.c ≤ 32) × Swept 0 (Leaves l.p) 0 l.c l.initial.on l.on
-
-abbrev pub decreases-loop-c : goal.decreases-loop-c
-decreases-loop-c l = 32 - l.c
+invariant-loop-c l = Swept 0 (Leaves l.p) 0 l.c l.initial.on l.on

@@ -1,5 +1,5 @@
 -- The rules on the calls join the pending ones, and rule p leaves.
-use native.Mathlib.Omega.{arith}
+use Rattle.std.proofs.Common.{arith}
 use Rattle.masks.specs.Laws.Rules.{enqueues}
 use Rattle.masks.proofs.rules.enqueue.Goals as goal
 

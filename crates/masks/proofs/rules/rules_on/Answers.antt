@@ -1,5 +1,5 @@
 -- The rules on the calls that are not left are gathered; the lowest of those left is next.
-use native.Mathlib.Omega.{arith}
+use Rattle.std.proofs.Common.{arith}
 use Rattle.masks.specs.Laws.Rules.{gathered_none, gathered_more, gathered_all}
 use Rattle.masks.proofs.rules.rules_on.Goals as goal
 

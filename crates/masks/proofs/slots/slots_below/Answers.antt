@@ -1,11 +1,7 @@
--- One slot more is in the mask with each round.
-use native.Mathlib.Omega.{arith}
-use Rattle.tables.specs.Laws.Masks.{mask_none}
-use Rattle.masks.specs.Laws.Slots.{slots_more}
+-- The test is that the byte is below the bound.
+use Rattle.std.proofs.Common.{rules}
+use Rattle.masks.specs.Laws.Slots.{tested_mask}
 use Rattle.masks.proofs.slots.slots_below.Goals as goal
 
-pub loop-s-init : goal.loop-s-init
-loop-s-init c = (omega arith, mask_none _)
-
-pub loop-s-preserved : goal.loop-s-preserved
-loop-s-preserved c = (omega arith, slots_more _ (omega arith) c.loop-s.invariant.1 c.below.ensures)
+pub returns : goal.returns
+returns c = tested_mask _ c.slots_where.ensures (λ s l e t. search rules) (λ s l t. search rules)

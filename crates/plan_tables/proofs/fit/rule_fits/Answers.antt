@@ -3,4 +3,4 @@ use Rattle.plan_tables.specs.Laws.Fit.{fitted_by_lem}
 use Rattle.plan_tables.proofs.fit.rule_fits.Goals as goal
 
 pub returns : goal.returns
-returns c = fitted_by_lem _ _ _ _ _ (rw (← c.columns_at.ensures) c.plan_word-wanted.ensures) c.has_word.ensures
+returns c = fitted_by_lem _ _ _ (rw (← c.columns_at.ensures) c.plan_word-wanted.ensures) c.has_word.ensures

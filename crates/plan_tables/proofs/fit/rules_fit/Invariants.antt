@@ -3,7 +3,7 @@ use Rattle.plan_tables.specs.Laws.Fit.{FitSoFar}
 use Rattle.plan_tables.proofs.fit.rules_fit.Given as goal
 
 abbrev pub invariant-loop-left : goal.invariant-loop-left
-invariant-loop-left l = FitSoFar l.words l.lengths l.columns l.plan l.rules l.left
+invariant-loop-left l = FitSoFar l.tables l.plan l.rules l.left
 
 abbrev pub decreases-loop-left : goal.decreases-loop-left
 decreases-loop-left l = l.left

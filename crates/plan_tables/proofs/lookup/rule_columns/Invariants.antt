@@ -1,12 +1,8 @@
 -- The columns before i have their calls.
-use mathlib.Core.Path.{◌≡◌}
-use Prim.Native.Nat.{◌-◌, ◌/◌, ◌%◌, ◌≤◌}
+use Rattle.std.proofs.Common.{◌≡◌, ◌/◌, ◌%◌}
 use Rattle.plan_fit.specs.Words.{column_call}
 use Rattle.plan_tables.specs.Lookup.{Entries}
 use Rattle.plan_tables.proofs.lookup.rule_columns.Given as goal
 
 abbrev pub invariant-loop-i : goal.invariant-loop-i
-invariant-loop-i l = (l.i ≤ 256) × Entries (λ iₙ v. v ≡ column_call l.arity l.scope l.slots (iₙ / 4) (iₙ % 4)) 256 l.i l.columns
-
-abbrev pub decreases-loop-i : goal.decreases-loop-i
-decreases-loop-i l = 256 - l.i
+invariant-loop-i l = Entries (λ j v. v ≡ column_call l.heads l.slots (j / 4) (j % 4)) 256 l.i l.columns

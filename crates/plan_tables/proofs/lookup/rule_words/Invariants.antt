@@ -1,10 +1,6 @@
 -- The rows before w are words.
-use Prim.Native.Nat.{◌-◌, ◌≤◌}
 use Rattle.plan_tables.specs.Lookup.{WordsMade}
 use Rattle.plan_tables.proofs.lookup.rule_words.Given as goal
 
 abbrev pub invariant-loop-w : goal.invariant-loop-w
-invariant-loop-w l = (l.w ≤ l.held) × WordsMade l.rows l.p l.mask l.w l.initial.words l.words
-
-abbrev pub decreases-loop-w : goal.decreases-loop-w
-decreases-loop-w l = l.held - l.w
+invariant-loop-w l = WordsMade l.rows l.p l.mask l.w l.initial.words l.words

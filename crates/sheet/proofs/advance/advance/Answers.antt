@@ -1,5 +1,5 @@
 -- By what was read: a command has its own round; a refusal gives its own line; at the end nothing is written.
-use mathlib.Core.Path.{refl}
+use Rattle.std.proofs.Common.{refl}
 use Rattle.sheet.specs.Laws.Advance.{advanced_same, advanced_command, advanced_refused, advanced_end}
 use Rattle.sheet.proofs.advance.advance.Goals as goal
 
@@ -10,11 +10,9 @@ returns-in-Command c =
 
 pub returns-in-Refused : goal.returns-in-Refused
 returns-in-Refused c =
-    rw c.with_places.ensures
-    (advanced_same c.decode-decoded.ensures
-    (advanced_refused _ _ _ _ _ _ _ _ c.in-Refused.is _ refl c.refusal_line-written.ensures))
+    advanced_same c.decode-decoded.ensures
+    (advanced_refused _ _ _ _ _ _ _ _ c.in-Refused.is _ refl c.refusal_line-written.ensures)
 
 pub returns-in-End : goal.returns-in-End
 returns-in-End c =
-    rw c.with_places-in-End.ensures
-    (advanced_same c.decode-decoded.ensures (advanced_end _ _ _ _ _ _ c.in-End.is refl refl))
+    advanced_same c.decode-decoded.ensures (advanced_end _ _ _ _ _ _ c.in-End.is refl refl)

@@ -4,6 +4,5 @@ use Rattle.layout.specs.Sizes.{marks_length}
 use Rattle.model.proofs.Laws.Fresh.{fresh_marked_lem}
 use Rattle.sheet.proofs.file.file_lines.Goals as goal
 
-pub fresh_lines-requires : goal.fresh_lines-requires
-fresh_lines-requires c =
-    record { fits = c.requires; represents_marked = rw c.fresh-held.ensures (fresh_marked_lem _ (filled marks_length 0).size) }
+pub fresh_lines-requires-clause-represents_marked : goal.fresh_lines-requires-clause-represents_marked
+fresh_lines-requires-clause-represents_marked c = rw c.fresh.ensures (fresh_marked_lem _ (filled marks_length 0).size)

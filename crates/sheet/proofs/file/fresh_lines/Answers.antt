@@ -1,6 +1,5 @@
 -- The loop keeps what `Reached` says: what is written and what is left to be written are all of the lines. A round reads on, so the measure falls.
-use mathlib.Core.Path.{refl}
-use native.Mathlib.Omega.{arith}
+use Rattle.std.proofs.Common.{refl, arith}
 use Rattle.sheet.specs.Laws.File.{reached_start, reads_on, reached_advance, reached_end}
 use Rattle.sheet.proofs.file.fresh_lines.Goals as goal
 

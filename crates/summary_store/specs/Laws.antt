@@ -1,2 +1,0 @@
--- The theorems over the definitions.
-pub mod Replaced
