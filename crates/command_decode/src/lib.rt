@@ -1,5 +1,5 @@
 // The decoder of a file of commands: from a slice and a place to the command there with its counts and the next place, or refusal 3 or 4.
-// Proved: what it reads is specs/Commands.antt's read_at, on every input. Assumed: nothing.
+// Proved: what it reads is read_at of specs/Commands.antt of the crate model, on every input. Assumed: nothing.
 #![tactic(auto)]
 
 ghost use Rattle.std.specs.Prelude.{◌≡◌, true, ◌+◌, ◌≤◌, length};
@@ -14,6 +14,7 @@ fn is_kind(k: u8) -> bool
     matches!(k, 1..=9)
 }
 
+// By the kind's byte, since the laws of a read are over bytes.
 pub fn body_length(k: u8) -> usize
     ensures { result ≡ body_size k }
 {

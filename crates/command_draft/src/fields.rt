@@ -9,7 +9,7 @@ use layout::places::is_cancelled;
 pub fn off_board(counts: &[u8; 32], x: u8) -> bool
     ensures { result ≡ off_board? counts.now x }
 {
-    32 <= x || counts[x as usize] == 0
+    32 <= x || counts[usize::from(x)] == 0
 }
 
 // Refusal 9: one of n calls is not on the board.
@@ -64,7 +64,7 @@ fn off_call(counts: &[u8; 32], scope: &[u8; 4], slots: &[u8; 4], k: usize) -> bo
     requires { k < 4 }
     ensures { result ≡ slot_off? counts.now scope.now slots.now k }
 {
-    counts[(scope[k] % 32) as usize] <= slots[k]
+    counts[usize::from(scope[k] % 32)] <= slots[k]
 }
 
 // Refusal 14: the slot in one of n columns is not on the column's call.

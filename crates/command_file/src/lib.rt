@@ -99,7 +99,7 @@ fn take_next(
     }
 }
 
-// On a value and buffers that are fresh.
+// On a value and buffers that are fresh. The loop goes by where the last command ended, which is in no range.
 fn take_all(
     value: Value,
     names: &mut [u8; NAMES],

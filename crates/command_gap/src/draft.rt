@@ -8,7 +8,7 @@ use model::command::GapRule;
 #[derive(Clone, Copy)]
 pub struct GapDraft {
     pub draft: Draft,
-    // how many pairs fit; where it is over 64 the draft is not the form's
+    // how many pairs fit; where it is over 64 the draft is not the form's, and refusal 25 is its caller's
     pub count: usize,
 }
 
@@ -28,6 +28,7 @@ pub fn draft_of(counts: &[u8; 32], f: GapRule) -> GapDraft
             rule: RuleData {
                 arity: 2,
                 scope: [f.first, f.second, 255, 255],
+                // of any count, since the caller looks at it
                 length: (count % 256) as u8,
                 rows,
             },

@@ -4,7 +4,7 @@ ghost use Rattle.command_gap.specs.Checks.{RedrawsGap};
 ghost use Rattle.model.specs.declared.command.Command.TheVariants as kind;
 
 use crate::checks::check_fields;
-use crate::draft::draft_of;
+use crate::draft::{GapDraft, draft_of};
 use command_draft::redraft::outcome_of;
 use layout::value::{Draft, Value};
 use model::answer::Outcome;
@@ -16,11 +16,9 @@ pub fn redraft(counts: &[u8; 32], slots: &[u8], f: GapRule) -> Result<Draft, Ref
     ensures { RedrawsGap counts.now slots.now f result }
 {
     check_fields(counts, slots, f)?;
-    let made = draft_of(counts, f);
-    if 64 < made.count {
-        return Err(Refusal::TooManyPairs);
-    }
-    Ok(made.draft)
+    let GapDraft { draft, count } = draft_of(counts, f);
+    Refusal::TooManyPairs.when(64 < count)?;
+    Ok(draft)
 }
 
 // In a frame of its own, for the stack.

@@ -1,5 +1,5 @@
 // The refusals of both kinds: the first that holds.
-ghost use Rattle.std.specs.Prelude.{◌≡◌};
+ghost use Rattle.std.specs.Prelude.{◌≡◌, not, eqb};
 ghost use Rattle.model.specs.Refusals.{first_of, number_of};
 ghost use Rattle.command_mark.specs.Checks.{keep_checks, back_checks, kept_byte};
 
@@ -14,15 +14,16 @@ pub fn check_keep(counts: &[u8; 32], name: u8) -> Result<(), Refusal>
 }
 
 // Whether something is kept under a name. Every name but 0 is taken for 1.
-fn kept_under(names: &[u8; NAMES], name: u8) -> u8
-    ensures { result ≡ kept_byte names.now name }
+fn kept_under(names: &[u8; NAMES], name: u8) -> bool
+    ensures { result ≡ not (eqb (kept_byte names.now name) 0) }
 {
-    if name == 0 { names[0] } else { names[NAME] }
+    let kept = if name == 0 { names[0] } else { names[NAME] };
+    kept != 0
 }
 
 pub fn check_back(counts: &[u8; 32], names: &[u8; NAMES], name: u8) -> Result<(), Refusal>
     ensures { number_of result ≡ first_of (back_checks counts.now names.now name) }
 {
     check_keep(counts, name)?;
-    Refusal::NothingKept.when(kept_under(names, name) == 0)
+    Refusal::NothingKept.when(!kept_under(names, name))
 }

@@ -15,6 +15,7 @@ pub fn reopen_slots(slots: &mut [u8; SLOTS], c: usize, mask: u32)
     ensures { Assigned 0 255 AnyByte (CallMask c mask) slots.old slots.new }
 {
     let mut left = mask;
+    // by the bits of the mask, which are no range
     while left != 0 {
         let s = left.trailing_zeros() as usize;
         slots[32 * c + s] = 255;
@@ -36,6 +37,7 @@ pub fn reopen_calls(slots: &mut [u8; SLOTS], visited: &[u32; 32], calls: u32) ->
 {
     let mut total = 0;
     let mut left = calls;
+    // by the bits of the mask, which are no range
     while left != 0 {
         let c = left.trailing_zeros() as usize;
         reopen_slots(slots, c, visited[c]);

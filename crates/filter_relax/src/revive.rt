@@ -47,7 +47,7 @@ pub fn revive_rows(
     }
 }
 
-// The same for a rule of n columns.
+// The same for a rule of n columns; revise_columns of filter_support says why the walk is no closure.
 pub fn revive_columns(
     rows: &[u8; ROWS],
     killers: &mut [u8; KILLERS],
@@ -106,6 +106,7 @@ pub fn revive_rules(
         64 killers.old killers.new }
 {
     let mut left = rules;
+    // by the bits of the mask, which are no range
     while left != 0 {
         let q = left.trailing_zeros() as usize;
         revive_rule(rows, killers, heads, visited, q);

@@ -1,6 +1,6 @@
 // The walk over a rule's rows: where the slot of a row's killer is visited, the row's slots that the rule struck are visited too. The rule is scanned as a whole from
 // the slots that are visited when it begins, and a row is treated without a branch, so that the compiler treats several at once.
-ghost use Rattle.std.specs.Prelude.{◌≡◌, cond, ◌≤◌, ◌<◌};
+ghost use Rattle.std.specs.Prelude.{◌≡◌, ◌≤◌, ◌<◌};
 ghost use Rattle.tables.specs.Assign.{Below};
 ghost use Rattle.tables.specs.Masks.{all_flags};
 ghost use Rattle.masks.specs.Columns.{PastEmpty};
@@ -13,14 +13,7 @@ use crate::visit::visit_call;
 use layout::places::cap;
 use layout::value::{Heads, KILLERS, ROWS, SLOTS};
 use masks::columns::{Columns, column, column_sets, first_columns, row_slots};
-use masks::slots::{set_difference, slots_with};
-
-// The set, where the test holds; else the empty one.
-pub fn set_where(test: bool, x: u32) -> u32
-    ensures { result ≡ cond test x 0 }
-{
-    if test { x } else { 0 }
-}
+use masks::slots::{set_difference, set_where, slots_with};
 
 // The slot of a row's killer, where it is in the sets; else 0.
 pub fn killer_bit(row: Columns, sets: Columns, killer: u8) -> u32
@@ -81,7 +74,7 @@ pub fn scan_rows(
     found
 }
 
-// The same for a rule of n columns.
+// The same for a rule of n columns. The ifs are those of revise_columns of filter_support and revive_columns, whose walks can be no closures.
 pub fn scan_columns(
     rows: &[u8; ROWS],
     killers: &[u8; KILLERS],

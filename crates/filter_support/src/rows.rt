@@ -1,13 +1,14 @@
 // The walk over a rule's rows: it kills the living rows that hold a struck slot, and gathers the slots of those that go on living, a set for each column. A row is
-// treated without a branch, so that the compiler treats several at once.
+// treated so that the compiler makes no branch of it, and treats several at once.
 ghost use Rattle.std.specs.Prelude.{◌≡◌, ◌≤◌, ◌<◌};
 ghost use Rattle.masks.specs.Columns.{PastEmpty};
-ghost use Rattle.filter_support.specs.Walk.{FirstMeeting, killer_now, alive_set, WithRow, RowWalked, Walked, WalkedColumns};
+ghost use Rattle.filter_support.specs.Walk.{FirstMeeting, killer_now, WithRow, RowWalked, Walked, WalkedColumns};
 
 use layout::value::{KILLERS, ROWS};
 use masks::columns::{Columns, first_columns, row_slots};
+use masks::slots::set_where;
 
-// The first column where the two sets meet, or 255.
+// The first column where the two sets meet, or 255, the killer's byte of a row that lives.
 pub fn first_meeting(a: Columns, b: Columns) -> u8
     ensures { FirstMeeting a b result }
 {
@@ -33,22 +34,17 @@ pub fn killer_now(old: u8, new: u8) -> u8
     if old == 255 { new } else { old }
 }
 
-// The set, where the row lives.
-pub fn where_alive(killer: u8, x: u32) -> u32
-    ensures { result ≡ alive_set killer x }
-{
-    if killer == 255 { x } else { 0 }
-}
-
 // The slots found, with those of a row that lives.
 pub fn with_row(found: Columns, row: Columns, killer: u8) -> Columns
     ensures { WithRow found row killer result }
 {
-    let c0 = found.c0 | where_alive(killer, row.c0);
-    let c1 = found.c1 | where_alive(killer, row.c1);
-    let c2 = found.c2 | where_alive(killer, row.c2);
-    let c3 = found.c3 | where_alive(killer, row.c3);
-    Columns { c0, c1, c2, c3 }
+    let alive = killer == 255;
+    Columns {
+        c0: found.c0 | set_where(alive, row.c0),
+        c1: found.c1 | set_where(alive, row.c1),
+        c2: found.c2 | set_where(alive, row.c2),
+        c3: found.c3 | set_where(alive, row.c3),
+    }
 }
 
 // A living row is killed by its first struck slot; where it has none its slots are added to the found.

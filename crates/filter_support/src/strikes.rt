@@ -25,6 +25,7 @@ pub fn strike_slots(slots: &mut [u8; SLOTS], p: u8, c: usize, lost: u32) -> usiz
 {
     let mut left = lost;
     let mut total = 0;
+    // by the bits of the mask, which are no range
     while left != 0 {
         let s = left.trailing_zeros() as usize;
         slots[32 * c + s] = p;

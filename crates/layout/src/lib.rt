@@ -5,7 +5,6 @@
 
 pub mod value; // the value beside the buffers, and the buffers' lengths
 pub mod places; // where bytes lie, and caps
-pub mod fill; // one byte throughout
 pub mod summary; // the summary table: its records and its length
 pub mod marks; // the marks' bytes: their lengths
 pub mod names; // what is held of the marks beside the value

@@ -33,7 +33,7 @@ fn name_byte(kept: u8, heads: &Heads, i: usize) -> u8
     }
 }
 
-// Every byte of a name is written, and no byte of the other.
+// Every byte of a name is written, and no byte of the other. The first is the byte that is given.
 pub fn store_name(names: &mut [u8; NAMES], name: usize, kept: u8, heads: Heads)
     requires { name < 2 }
     ensures { names.new ≡ with_mark_under names.old name (record { kept = kept; heads = heads }) }

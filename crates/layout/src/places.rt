@@ -23,7 +23,7 @@ pub fn byte_at(bytes: &[u8], at: usize) -> u8
     bytes.get(at).copied().unwrap_or(0)
 }
 
-// The byte of each slot of a cancelled call.
+// The byte of each slot of a cancelled call, in the memory.
 pub const CANCELLED: u8 = 253;
 
 // Whether the call is cancelled: the byte of its first slot says so, and every call has a slot.

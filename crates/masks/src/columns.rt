@@ -5,7 +5,7 @@ ghost use Rattle.masks.specs.Columns.{column_of, word_at, RowMasks, first_column
 
 use layout::value::ROWS;
 
-// A set of slots for each of four columns.
+// A set of slots for each of four columns. They are four fields, since each walk over rows writes them out, so as to have no loop within its loop.
 #[derive(Clone, Copy)]
 pub struct Columns {
     pub c0: u32,

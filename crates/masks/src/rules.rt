@@ -53,6 +53,7 @@ pub fn rules_on(on: &[u64; 32], calls: u32) -> u64
 {
     let mut rules = 0;
     let mut left = calls;
+    // by the bits of the mask, which are no range
     while left != 0 {
         rules |= on[left.trailing_zeros() as usize];
         left &= left - 1;

@@ -1,5 +1,5 @@
 // The slots of a call as masks of 32 bits.
-ghost use Rattle.std.specs.Prelude.{◌≡◌, ◌<◌};
+ghost use Rattle.std.specs.Prelude.{◌≡◌, cond, ◌<◌};
 ghost use Rattle.tables.specs.Masks.{IsMask};
 ghost use Rattle.masks.specs.Slots.{SlotsTested, SetDifference};
 ghost use Rattle.layout.specs.Places.{cause_of};
@@ -40,4 +40,11 @@ pub fn set_difference(x: u32, y: u32) -> u32
     ensures { SetDifference x y result }
 {
     x & !y
+}
+
+// The set, where the test holds; else the empty one.
+pub fn set_where(test: bool, x: u32) -> u32
+    ensures { result ≡ cond test x 0 }
+{
+    if test { x } else { 0 }
 }

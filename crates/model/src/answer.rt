@@ -1,4 +1,4 @@
-// What commands and questions answer: a refusal, or the struct or the enum of their own.
+// What commands and questions answer, where they are not refused; an outcome is a command's answer with the value that it leaves.
 ghost use Rattle.std.specs.Prelude.{◌≡◌};
 ghost use Rattle.model.specs.Promise.{refused_with, accepted_with};
 

@@ -2,7 +2,7 @@
 
 use crate::refusal::Refusal;
 
-// The head of a rule: kind 2's body. Calls past the arity are 255.
+// The head of a rule: kind 2's body. Calls past the arity are 255. They are four fields, since the laws are over any head, and an array would be a list of any length there.
 #[derive(Clone, Copy)]
 pub struct Head {
     pub number: u8,
@@ -13,7 +13,7 @@ pub struct Head {
     pub call3: u8,
 }
 
-// A row of a rule: kind 3's body. Slots past the arity are 255.
+// A row of a rule: kind 3's body. Slots past the arity are 255, and are four fields as in a head.
 #[derive(Clone, Copy)]
 pub struct Row {
     pub slot0: u8,
@@ -33,7 +33,7 @@ pub struct GapRule {
     pub gap: u8,
 }
 
-// A command with its own fields. The 32 counts of kind 1 stand beside it.
+// A command with its own fields. The 32 counts of kind 1 stand beside it, as docs/SCOPE.md has them (10.6).
 #[derive(Clone, Copy)]
 pub enum Command {
     Board,
@@ -56,7 +56,7 @@ pub enum Command {
 #[derive(Clone, Copy)]
 pub enum Read {
     Command(Command),
-    // the kind's byte, and refusal 3 or 4
+    // the kind's byte, which the laws of a read speak of, and refusal 3 or 4
     Refused(u8, Refusal),
     End,
 }

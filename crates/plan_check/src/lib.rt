@@ -34,11 +34,7 @@ pub fn check_plan(
     let Some(plan) = plan.as_array::<32>() else {
         return Err(Refusal::PlanLength);
     };
-    if value.heads.counts[0] == 0 {
-        return Err(Refusal::NoBoard);
-    }
-    if wrong_plan(&value.heads.counts, slots, plan) {
-        return Err(Refusal::BadPlanByte);
-    }
+    Refusal::NoBoard.when(value.heads.counts[0] == 0)?;
+    Refusal::BadPlanByte.when(wrong_plan(&value.heads.counts, slots, plan))?;
     Ok(lowest_broken(&value.heads, rows, slots, plan))
 }

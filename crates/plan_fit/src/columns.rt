@@ -5,7 +5,7 @@ ghost use Rattle.plan_fit.specs.Words.{column_call, ColumnCalls, mask_byte, plan
 use layout::places::{cap, is_cancelled};
 use layout::value::Heads;
 
-// The call of column k of rule p; 255 where the column does not count, since it is none of the rule's or its call is cancelled.
+// The call of column k of rule p; 255 where the column does not count, since it is none of the rule's or its call is cancelled. The definition has this byte, and the tables of a search hold it.
 #[tactic(auto, unfolding(crate::specs::Words::column_call))]
 pub fn column_call(heads: &Heads, slots: &[u8], p: usize, k: usize) -> u8
     requires p_bound { p < 64 }

@@ -30,8 +30,6 @@ pub fn first_plan(
     ) else {
         return Err(Refusal::BufferLength);
     };
-    if value.heads.counts[0] == 0 {
-        return Err(Refusal::NoBoard);
-    }
+    Refusal::NoBoard.when(value.heads.counts[0] == 0)?;
     Ok(lay_plan(&value.heads, rows, slots, ceiling))
 }

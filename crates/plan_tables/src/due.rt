@@ -3,7 +3,7 @@ ghost use Rattle.std.specs.Prelude.{◌≡◌, ◌<◌};
 ghost use Rattle.masks.specs.Rules.{Inserted};
 ghost use Rattle.plan_tables.specs.Due.{column_stage, rule_stage, DueAt, DueRules};
 
-// How many calls are passed when the column's call is laid: one more than its number; 0 for a column that does not count, and 64 for a call that is not to be laid.
+// How many calls are passed when the column's call is laid: one more than its number; 0 for a column that does not count, and 64 for a call that is not to be laid. Numbers, since a rule's is the largest.
 #[tactic(auto, unfolding(crate::specs::Due::column_stage))]
 fn column_stage(held: &[u8; 32], call: u8) -> u8
     ensures { result ≡ column_stage held.now call }

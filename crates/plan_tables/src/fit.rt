@@ -35,6 +35,7 @@ pub fn rules_fit(tables: &Tables, plan: &[u8; 32], rules: u64) -> bool
     ensures { result ≡ stays_by tables.now rules plan.now }
 {
     let mut left = rules;
+    // by the bits of the mask, which are no range
     while left != 0 {
         let p = left.trailing_zeros() as usize;
         if !rule_fits(tables, plan, p) {

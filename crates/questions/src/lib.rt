@@ -73,7 +73,7 @@ pub fn row_state(
     }
 }
 
-// The row's four bytes where they lie in the lent buffer, and no byte of it where `row_state` refuses.
+// The row's four bytes where they lie in the lent buffer, and the empty part, as docs/SCOPE.md has it (5.4), where `row_state` refuses.
 pub fn row_bytes<'a>(
     value: Value,
     rows: &'a [u8],

@@ -26,7 +26,7 @@ fn board_lines(out: &mut [u8], place: usize, counts: &[u8; 32], slots: &[u8; SLO
     sheet_lines::total_line(out, listed, total)
 }
 
-// On a board that is fresh.
+// On a board that is fresh. The loop goes by where the last command ended, which is in no range.
 fn fresh_lines(board: &mut Board, input: &[u8], out: &mut [u8]) -> usize
     requires fits { Fits input.now out.old }
     requires represents_marked { RepresentsMarked fresh (state_on board.old) }
