@@ -1,6 +1,6 @@
 // A set of slots for each column of a rule. The walks over a rule's rows are written once, for four columns; with the spare columns set to 0, and what is found there
 // thrown away, the compiler makes a loop for two columns and one for three of them.
-ghost use Rattle.std.specs.Prelude.{◌≡◌, ◌+◌, ◌%◌, ◌^◌, ◌<◌};
+ghost use Rattle.std.specs.Prelude.{◌≡◌, ◌+◌, ◌%◌, ◌^◌, ◌<◌, length};
 ghost use Rattle.masks.specs.Columns.{column_of, word_at, RowMasks, first_columns, ColumnSet, ColumnSets};
 
 use layout::value::ROWS;
@@ -49,8 +49,8 @@ pub fn first_columns<const N: usize>(x: Columns) -> Columns
 }
 
 // The four bytes from i on as one number, the first as its lowest: so that a row is read at once.
-pub fn word(rows: &[u8; ROWS], i: usize) -> u32
-    requires { i + 3 < ROWS }
+pub fn word(rows: &[u8], i: usize) -> u32
+    requires { i + 3 < length rows.now }
     ensures { result ≡ word_at rows.now i }
 {
     u32::from_le_bytes([rows[i], rows[i + 1], rows[i + 2], rows[i + 3]])
