@@ -9,7 +9,7 @@ use Rattle.std.proofs.Math.Pow.{pow-lt}
 use Rattle.std.proofs.lemmas.Nat.{shr_le}
 use Rattle.tables.specs.Assign.{Any, Flagged, Below}
 use Rattle.tables.specs.Masks.{bit_of, Has, flags_of}
-use Rattle.tables.specs.Sweep.{Swept}
+use Rattle.tables.specs.Sweep.{One, Swept}
 use Rattle.tables.specs.Laws.Facts.{eq_or_ne, lt_or_le}
 use Rattle.tables.specs.Laws.Left.{Left, Removed, left_all, left_lowest, left_more, taken_lowest, taken_only, taken_all}
 use Rattle.tables.specs.Laws.Flags.{flags_length, flag_set, flag_clear, flags_set}
@@ -30,8 +30,14 @@ use Rattle.tables.specs.Laws.Masks.{
   or_either,
   mask_none,
 }
+use Rattle.tables.specs.Laws.Sweep.{one_set, swept_more}
 use Rattle.layout.specs.Places.{call_of, columns_of}
+use Rattle.masks.specs.Laws.Columns.{four}
 use Rattle.masks.specs.Rules.{OnCalls, OnCall, RulesTo, Inserted, ScopeRule, RuleDropped, OnAny, RulesOnAny, Without, Enqueues, NextRule}
+
+-- RULES JOIN CALLS. Where none does, nothing changes
+pub inserted_none : (Q : ℕ → ℕ → Type 0) (l : List ℕ) → ((c s : ℕ) → Q c s → ⊥) → Inserted Q l l
+inserted_none Q l none = record { size = refl; stays = λ c s h. h; joins = λ c s q. absurd (none c s q); only = λ c s h. inl h }
 
 -- one rule joins one call by its bit
 module _ (Q : ℕ → ℕ → Type 0) (l : List ℕ) (d q : ℕ) (here : d < length l) (sets : Q d q) (alone : (c s : ℕ) → Q c s → (c ≡ d) × (s ≡ q)) where
@@ -62,33 +68,78 @@ module _ (Q : ℕ → ℕ → Type 0) (l : List ℕ) (d q : ℕ) (here : d < len
           (λ ne. inl (rw (get_or-set_other l d c v 0 ne) at h))
           (eq_or_ne c d)
 
+-- one set after another is both
+pub inserted_both : {P Q : ℕ → ℕ → Type 0} {a b e : List ℕ} → Inserted P a b → Inserted Q b e → Inserted (λ c s. P c s ⊎ Q c s) a e
+inserted_both x y =
+    record {
+      size = y.size ∙ x.size;
+      stays = λ c s h. y.stays c s (x.stays c s h);
+      joins = λ c s z. ⊎_elim (λ p. y.stays c s (x.joins c s p)) (λ q. y.joins c s q) z;
+      only = λ c s h. ⊎_elim (λ g. ⊎_elim (λ o. inl o) (λ p. inr (inl p)) (x.only c s g)) (λ q. inr (inr q)) (y.only c s h);
+    }
+
+-- the set may be put in other words
+pub inserted_same : (P Q : ℕ → ℕ → Type 0) {a b : List ℕ} → ((c s : ℕ) → Q c s → P c s) → ((c s : ℕ) → P c s → Q c s) → Inserted P a b → Inserted Q a b
+inserted_same P Q back forth x =
+    record {
+      size = x.size;
+      stays = x.stays;
+      joins = λ c s q. x.joins c s (back c s q);
+      only = λ c s h. ⊎_elim (λ o. inl o) (λ p. inr (forth c s p)) (x.only c s h);
+    }
+
 -- one column more
 pub inserted_more : (scope : List ℕ) (q k : ℕ) {a b : List ℕ} → Inserted (ScopeRule scope q k) a b → call_of scope q k < length b
     → Inserted (ScopeRule scope q (k + 1)) a (set b (call_of scope q k) (bit_or (get_or b (call_of scope q k) 0) (2 ^ q)))
-inserted_more scope q k {a} {b} x l = record { size = y.size ∙ x.size; stays = λ c s h. y.stays c s (x.stays c s h); joins = joins; only = only }
+inserted_more scope q k {a} {b} x l = inserted_same Each (ScopeRule scope q (k + 1)) back forth (inserted_both x last)
   where
-    One : ℕ → ℕ → Type 0
-    One c s = (c ≡ call_of scope q k) × (s ≡ q)
+    Last : ℕ → ℕ → Type 0
+    Last c s = (c ≡ call_of scope q k) × (s ≡ q)
 
-    y : Inserted One b (set b (call_of scope q k) (bit_or (get_or b (call_of scope q k) 0) (2 ^ q)))
-    y = inserted_one One b (call_of scope q k) q l (refl, refl) (λ c s o. o)
+    Each : ℕ → ℕ → Type 0
+    Each c s = ScopeRule scope q k c s ⊎ Last c s
 
-    joins : (c s : ℕ) → ScopeRule scope q (k + 1) c s → Has (get_or (set b (call_of scope q k) (bit_or (get_or b (call_of scope q k) 0) (2 ^ q))) c 0) s
-    joins c s t =
+    last : Inserted Last b (set b (call_of scope q k) (bit_or (get_or b (call_of scope q k) 0) (2 ^ q)))
+    last = inserted_one Last b (call_of scope q k) q l (refl, refl) (λ c s o. o)
+
+    back : (c s : ℕ) → ScopeRule scope q (k + 1) c s → Each c s
+    back c s t =
         let o = t.1 in
         let lt = o.1 in
         let le : o.0 ≤ k = omega arith in
-        ⊎_elim
-        (λ (e : o.0 ≡ k). y.joins c s (sym (rw e at o.2), t.0))
-        (λ less. y.stays c s (x.joins c s (t.0, (o.0, less, o.2))))
-        (eq-or-lt_of_le le)
+        ⊎_elim (λ (e : o.0 ≡ k). inr (sym (rw e at o.2), t.0)) (λ less. inl (t.0, (o.0, less, o.2))) (eq-or-lt_of_le le)
 
-    only : (c s : ℕ) → Has (get_or (set b (call_of scope q k) (bit_or (get_or b (call_of scope q k) 0) (2 ^ q))) c 0) s → Has (get_or a c 0) s ⊎ ScopeRule scope q (k + 1) c s
-    only c s h =
-        ⊎_elim
-        (λ g. ⊎_elim (λ z. inl z) (λ t. let lt = t.1.1 in inr (t.0, (t.1.0, omega arith, t.1.2))) (x.only c s g))
-        (λ o. inr (o.1, (k, omega arith, sym o.0)))
-        (y.only c s h)
+    forth : (c s : ℕ) → Each c s → ScopeRule scope q (k + 1) c s
+    forth c s u = ⊎_elim (λ t. let lt = t.1.1 in (t.0, (t.1.0, omega arith, t.1.2))) (λ o. (o.1, (k, omega arith, sym o.0))) u
+
+-- it is rule q on the call of its column k, where that is one of its n
+abbrev pub ColumnRule : List ℕ → ℕ → ℕ → ℕ → ℕ → ℕ → Type 0
+ColumnRule scope q n k c s = (s ≡ q) × (k < n) × (call_of scope q k ≡ c)
+
+-- the four columns of a rule, of which n are looked at
+pub inserted_four : (scope : List ℕ) (q n : ℕ) {a b d e f : List ℕ} → n ≤ 4
+    → Inserted (ColumnRule scope q n 0) a b → Inserted (ColumnRule scope q n 1) b d → Inserted (ColumnRule scope q n 2) d e → Inserted (ColumnRule scope q n 3) e f
+    → Inserted (ScopeRule scope q n) a f
+inserted_four scope q n le w x y z = inserted_same Each (ScopeRule scope q n) back forth (inserted_both (inserted_both (inserted_both w x) y) z)
+  where
+    Each : ℕ → ℕ → Type 0
+    Each c s = ((ColumnRule scope q n 0 c s ⊎ ColumnRule scope q n 1 c s) ⊎ ColumnRule scope q n 2 c s) ⊎ ColumnRule scope q n 3 c s
+
+    back : (c s : ℕ) → ScopeRule scope q n c s → Each c s
+    back c s t =
+        let o = t.1 in
+        let lt = o.1 in
+        four (λ k. ColumnRule scope q n k c s → Each c s) (λ v. inl (inl (inl v))) (λ v. inl (inl (inr v))) (λ v. inl (inr v)) (λ v. inr v) o.0 (omega arith) (t.0, lt, o.2)
+
+    one : (c s k : ℕ) → ColumnRule scope q n k c s → ScopeRule scope q n c s
+    one c s k v = (v.0, (k, v.1, v.2))
+
+    forth : (c s : ℕ) → Each c s → ScopeRule scope q n c s
+    forth c s t = ⊎_elim (λ u. ⊎_elim (λ v. ⊎_elim (one c s 0) (one c s 1) v) (one c s 2) u) (one c s 3) t
+
+-- a rule of no columns joins no call
+pub inserted_bare : (scope : List ℕ) (q n : ℕ) (l : List ℕ) → n ≡ 0 → Inserted (ScopeRule scope q n) l l
+inserted_bare scope q n l z = inserted_none (ScopeRule scope q n) l (λ c s t. let lt = t.1.1 in omega arith)
 
 -- THE RULES ON EACH CALL, before the first rule
 pub rules_none : (arity scope : List ℕ) → RulesTo arity scope 0 (replicate 32 0)
@@ -121,6 +172,10 @@ rules_more {arity} {scope} {q} {n} {a} {b} e x y = record { size = y.size ∙ x.
         (omega arith, rw f z))
         (y.only c s h)
 
+-- after the last rule, where the loop's test says that n is m
+pub rules_at : {arity scope : List ℕ} {n m : ℕ} {l : List ℕ} → RulesTo arity scope n l → n ≤ m → m ≤ n → RulesTo arity scope m l
+rules_at {n = n} {m = m} x le ge = let e : m ≡ n = omega arith in rw e x
+
 -- A RULE LEAVES a mask of 64 rules
 pub without_power : (m p : ℕ) → p < 64 → Without p m (bit_and m ((2 ^ 64 - 1) - 2 ^ p))
 without_power m p l =
@@ -133,6 +188,13 @@ without_power m p l =
 -- entry by entry, where masks have 64 bits
 abbrev pub Leaves : ℕ → ℕ → ℕ → ℕ → Type 0
 Leaves p c m r = Without p m r × (r < 2 ^ 64)
+
+-- one entry more
+pub leaves_more : {p c v : ℕ} {a b : List ℕ} → c < length b → Swept 0 (Leaves p) 0 c a b → Without p (get_or b c 0) v → v < 2 ^ 64 → Swept 0 (Leaves p) 0 (c + 1) a (set b c v)
+leaves_more {p} {c} {v} {a} {b} l x w lv =
+    let e : 0 + c ≡ c = omega arith in
+    let one : One 0 (Leaves p) 0 c b (set b (0 + c) v) = one_set 0 (Leaves p) 0 c b v (omega arith) (rw e (w, lv)) in
+    swept_more 0 (Leaves p) 0 c a b (set b c v) x (rw e at one)
 
 -- after the last entry
 pub dropped : {p : ℕ} {a b : List ℕ} → Swept 0 (Leaves p) 0 32 a b → RuleDropped p a b
