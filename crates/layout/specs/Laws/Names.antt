@@ -1,12 +1,13 @@
 -- WHAT IS WRITTEN OF A NAME IS READ THERE, and the other name is as it was. Assumes nothing.
 use Rattle.std.specs.Prelude.{◌≡◌, refl, List, [], ◌∷◌, ◌++◌, ◌⊎◌, ℕ, zero, suc, ◌+◌, ◌-◌, ◌≤◌, ◌<◌, length, get_or, set, replicate, take, drop}
-use Rattle.std.proofs.Common.{sym, ap, ◌∙◌, inl, inr, ⊎_elim, eq-or-lt_of_le, le_of_suc-le-suc, arith, length-append, length-set, length-take-le, length-drop, get_or-take, get_or-drop, get_or-set_same, get_or-set_other, ext_get_or, ne_eqb, lt-ltb, le-ltb}
+use Rattle.std.proofs.Common.{sym, ap, ◌∙◌, inl, inr, ⊎_elim, eq-or-lt_of_le, le_of_suc-le-suc, add-one, arith, length-append, length-set, length-take-le, length-drop, get_or-take, get_or-drop, get_or-set_same, get_or-set_other, ext_get_or, ne_eqb, lt-ltb, le-ltb}
 use Rattle.std.proofs.Math.ListN.{get_or-append}
 use Rattle.std.proofs.Math.Seq.{get_or-append_seam}
 use Rattle.layout.specs.declared.value.Heads.{Heads}
 use Rattle.layout.specs.Value.{fresh_heads}
 use Rattle.layout.specs.Names.{Mark, no_mark, name_length, names_length, name_start, name_byte, written, listed, bytes_from, mark_under, with_mark_under, no_names}
-use Rattle.layout.specs.Laws.Memory.{filled}
+use Rattle.layout.specs.Memory.{Filled}
+use Rattle.layout.specs.Laws.Memory.{filled, filled_is}
 use Rattle.tables.specs.Laws.Facts.{lt_or_le}
 
 -- bytes written one by one
@@ -28,6 +29,10 @@ module _ (f : ℕ → ℕ) (at : ℕ) where
   written_out (suc n) l j apart =
       get_or-set_other (written f at n l) (at + n) j (f n) 0 (λ e. ⊎_elim (λ (h : j < at). omega arith) (λ (h : at + suc n ≤ j). omega arith) apart)
       ∙ written_out n l j (⊎_elim (λ h. inl h) (λ (h : at + suc n ≤ j). inr (omega arith)) apart)
+
+-- as a loop writes them
+pub written_more : (f : ℕ → ℕ) (at n : ℕ) (l new : List ℕ) (v : ℕ) → new ≡ written f at n l → v ≡ f n → set new (at + n) v ≡ written f at (n + 1) l
+written_more f at n l new v is e = rw (is, e) (sym (ap (λ (k : ℕ). written f at k l) (add-one n)))
 
 pub mark_written : (names : List ℕ) (name : ℕ) (m : Mark) (start i : ℕ) (new : List ℕ) → start ≡ name_start name → i ≤ name_length → name_length ≤ i
     → new ≡ written (name_byte m) start i names → new ≡ with_mark_under names name m
@@ -181,3 +186,10 @@ none_under zero known =
 none_under (suc zero) known =
     under_own (with_mark_under zeros 0 no_mark) 1 no_mark (with_name_size zeros 0 no_mark ∙ zeros_size) (omega arith) fresh_sized
 none_under (suc (suc name)) known = absurd (omega arith)
+
+-- names that were cleared, and then written so
+pub forgotten : {old one new : List ℕ} {h h' : Heads} (n : ℕ) → n ≡ names_length → Filled n 0 old → h ≡ fresh_heads
+    → one ≡ with_mark_under old 0 (record { kept = 0; heads = h }) → h' ≡ fresh_heads → new ≡ with_mark_under one 1 (record { kept = 0; heads = h' }) → new ≡ no_names
+forgotten {old} n size clear f e f' e' =
+    let cleared : old ≡ zeros = filled_is n 0 old clear ∙ ap (λ (k : ℕ). replicate k 0) size in
+    rw (e', f', e, f, cleared) refl
