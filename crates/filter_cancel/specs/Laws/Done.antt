@@ -14,6 +14,7 @@ use Rattle.filter_relax.specs.Relaxed.{Relaxed}
 use Rattle.filter_relax.proofs.Laws.Seed.{adds_masked, seeding, seed_empty}
 use Rattle.filter_relax.proofs.Laws.Reopen.{zero_none}
 use Rattle.filter_relax.proofs.Laws.Relaxed.{relaxed_from}
+use Rattle.layout.specs.Bounds.{Sizes}
 use Rattle.layout.specs.Places.{cause_of}
 use Rattle.filter_cancel.specs.Done.{OwnStruck, Withdrawn, Beside, StruckWithout, OthersCounted, CancelQuiet, CancelReworked}
 
@@ -58,7 +59,11 @@ module _ (masks : List ℕ) (c : ℕ) (inside : c < length masks) where
   count_beside : count is_visited (all_flags 32 masks) - count is_visited (flags_of 32 (get_or masks c 0)) ≡ count is_visited (all_flags 32 (set masks c 0))
   count_beside = omega (arith, count_all is_visited 32 0 masks c inside, zero_none)
 
--- propagation follows a withdrawal
+-- a withdrawal leaves the buffers' lengths as they were
+pub withdrawn_sizes : (c : ℕ) {n : ℕ} {rows killers slots slots' : List ℕ} → Withdrawn c n slots slots' → Sizes rows killers slots → Sizes rows killers slots'
+withdrawn_sizes c w s = record { rows_size = s.rows_size; killers_size = s.killers_size; slots_size = w.len ∙ s.slots_size }
+
+-- and propagation follows it
 pub struck_without : {c n again : ℕ} {pending flags : List Bool} {R : RuleBytes} {killers killers' slots slots' left : List ℕ} → Withdrawn c n slots left
     → Propagated R again (reached killers left pending) (reached killers' slots' flags) → StruckWithout c n again pending R killers killers' slots slots'
 struck_without {flags = flags} {left = left} w p = record { left = left; withdrawn = w; flags = flags; propagated = p }

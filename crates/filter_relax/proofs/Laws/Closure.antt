@@ -8,7 +8,7 @@ use Rattle.tables.specs.Masks.{Has, flags_of, all_flags}
 use Rattle.tables.specs.Laws.Assign.{assign_stays}
 use Rattle.tables.specs.Laws.Count.{count_le, count_set}
 use Rattle.tables.specs.Laws.Facts.{true_false, true_or_false, eq_or_ne, lt_or_le}
-use Rattle.tables.specs.Laws.Flags.{flags_length, flag_set, flag_clear, flag_has}
+use Rattle.tables.specs.Laws.Flags.{flags_length, flag_set, flag_clear, flag_has, all_length}
 use Rattle.tables.specs.Laws.Lost.{lost_count, only_same}
 use Rattle.tables.specs.Laws.Masks.{bit_zero, or_left, or_right, or_either}
 use Rattle.masks.specs.Rules.{OnCalls, RulesTo, RulesOnAny, Enqueues}
@@ -185,6 +185,11 @@ module _ (R : RuleBytes) (killers slots : List ℕ) where
         settled = λ no_own. settled_step q v no_own (a.settled no_own);
         calls = v.calls a.calls;
       }
+
+-- the table of masks keeps its length
+pub closing_size : {R : RuleBytes} {killers slots : List ℕ} {old : List Bool} (visited : List ℕ) {flags pending : List Bool} → Closing R killers slots old (traversal (all_flags 32 visited) flags pending)
+    → length visited ≡ 32
+closing_size visited a = omega (arith, a.sizes.visited.visited_size, all_length 32 visited)
 
 -- where none is pending all is settled
 pub closed : (R : RuleBytes) (killers slots : List ℕ) {old visited flags : List Bool} {pending : ℕ} → pending ≡ 0 → Closing R killers slots old (traversal visited flags (flags_of 64 pending))

@@ -1,6 +1,6 @@
 -- The closure, the reopening, the pending rules and the reviving are a relaxation. Assumes nothing.
 use Rattle.std.specs.Prelude.{◌≡◌, List, ◌⊎◌, Bool, false, ℕ, ◌+◌, ◌*◌, ◌/◌, ◌<◌, get_or}
-use Rattle.std.proofs.Common.{inl, inr, arith}
+use Rattle.std.proofs.Common.{◌∙◌, inl, inr, arith}
 use Rattle.tables.specs.Masks.{Has, flags_of, all_flags}
 use Rattle.tables.specs.Laws.Facts.{true_false}
 use Rattle.tables.specs.Laws.Flags.{flags_length, flag_set, flag_has}
@@ -10,6 +10,7 @@ use Rattle.filter_propagate.specs.Rules.{RuleBytes}
 use Rattle.filter_propagate.specs.Queue.{IsFlagged}
 use Rattle.filter_propagate.specs.Stable.{StableBytes}
 use Rattle.filter_propagate.specs.Laws.Stable.{stable_keep}
+use Rattle.layout.specs.Bounds.{Sizes}
 use Rattle.layout.specs.Places.{columns_of, slot_of, row_cell, call_of}
 use Rattle.filter_relax.specs.Reach.{seed, joins}
 use Rattle.filter_relax.specs.Touched.{Touched, CallsVisited}
@@ -99,3 +100,8 @@ module _ {R : RuleBytes} {t : ℕ} {killers revived slots reopened : List ℕ} {
         stable_keep R q killers revived slots reopened
         (λ k s lk ls. x.slot_kept (32 * call_of R.scope q k + s) (λ o. true_false (x.enqueued q lq (k, lk, (s, ls, o))) off))
         (λ w lw. x.row_kept q w lq (omega arith) (λ f. true_false (x.enqueued q lq (freed_on R visited q w _ f)) off))
+
+-- a relaxation leaves the buffers' lengths as they were
+pub relaxed_sizes : {t : ℕ} {R : RuleBytes} {Seed : ℕ → Type 0} {killers revived slots opened : List ℕ} {visited pending : List Bool}
+    → Relaxed R Seed t killers revived slots opened visited pending → Sizes R.rows killers slots → Sizes R.rows revived opened
+relaxed_sizes x s = record { rows_size = s.rows_size; killers_size = x.killers_size ∙ s.killers_size; slots_size = x.slots_size ∙ s.slots_size }

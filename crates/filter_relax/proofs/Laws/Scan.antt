@@ -169,6 +169,10 @@ module _ (rows killers : List ℕ) (sets : Columns) (q : ℕ) where
           (λ t. record { row = w; inside = omega arith; hit = t.0; holds = t.1 })
           (b.only k s l i)
 
+  -- after the last round, where the loop's test says that w is m
+  pub scanned_at : {w m : ℕ} {x : Columns} → Scanned rows killers sets q w x → w ≤ m → m ≤ w → Scanned rows killers sets q m x
+  scanned_at {w} {m} a l g = let e : m ≡ w = omega arith in rw e a
+
 -- A RULE OF FEWER COLUMNS: what is found in the others is thrown away
 module _ {rows killers : List ℕ} {sets : Columns} {q m : ℕ} {x : Columns} where
   pub scanned_first : (w : ℕ) → 1 < w → w ≤ 4 → (n : ℕ) → n ≤ w → Scanned rows killers sets q m x → ScannedColumns rows killers sets q n m (first_columns w x)
@@ -177,6 +181,13 @@ module _ {rows killers : List ℕ} {sets : Columns} {q m : ℕ} {x : Columns} wh
         has = λ k s lk h. rw (first_in w two x k (omega arith) (omega arith)) (v.has k s (omega arith) h);
         only = λ k s lk i. v.only k s (omega arith) (rw (first_in w two x k (omega arith) (omega arith)) at i);
       }
+
+  -- of two columns at most, of three at most, and of any number
+  pub scanned_two : (n : ℕ) → n < 3 → Scanned rows killers sets q m x → ScannedColumns rows killers sets q n m (first_columns 2 x)
+  scanned_two n l = scanned_first 2 (omega arith) (omega arith) n (omega arith)
+
+  pub scanned_three : (n : ℕ) → n < 4 → Scanned rows killers sets q m x → ScannedColumns rows killers sets q n m (first_columns 3 x)
+  scanned_three n l = scanned_first 3 (omega arith) (omega arith) n (omega arith)
 
   pub scanned_four : (n : ℕ) → n ≤ 4 → Scanned rows killers sets q m x → ScannedColumns rows killers sets q n m x
   scanned_four n l v = record { has = λ k s lk. v.has k s (omega arith); only = λ k s lk. v.only k s (omega arith) }

@@ -1,5 +1,6 @@
 -- From what the parts of a retraction ensure to what it does to the bytes. Assumes nothing.
 use Rattle.std.specs.Prelude.{◌≡◌, refl, List, ℕ, ◌-◌, ◌<◌, Bool, replicate}
+use Rattle.std.proofs.Common.{◌∙◌}
 use Rattle.tables.specs.Masks.{flags_of, all_flags}
 use Rattle.masks.specs.Rules.{RulesTo, RuleDropped, Without}
 use Rattle.filter_propagate.specs.Rules.{RuleBytes, reached}
@@ -9,6 +10,7 @@ use Rattle.filter_relax.specs.Touched.{Seeded}
 use Rattle.filter_relax.specs.Spread.{Adds}
 use Rattle.filter_relax.specs.Seed.{Seeding}
 use Rattle.filter_relax.specs.Relaxed.{Relaxed}
+use Rattle.layout.specs.Bounds.{Sizes}
 use Rattle.layout.specs.Places.{columns_of}
 use Rattle.masks.specs.Laws.Rules.{flags_without, dropped_rules}
 use Rattle.filter_relax.proofs.Laws.Seed.{seeding, seed_empty}
@@ -31,8 +33,12 @@ module _ {p n calls : ℕ} (R : RuleBytes) {slots visited : List ℕ} (e : n ≡
         none_touched = refl;
       }
 
--- where the rule is cleared, the table of the rules on each call without it is that of the rules
+-- where the rule is cleared the lengths stay, and the table of the rules on each call without it is that of the rules
 module _ {p : ℕ} {R R' : RuleBytes} {killers emptied : List ℕ} (c : RuleCleared p R R' killers emptied) where
+  pub cleared_sizes : {slots : List ℕ} → Sizes R.rows killers slots → Sizes R'.rows emptied slots
+  cleared_sizes s =
+      record { rows_size = c.written.rows_size ∙ s.rows_size; killers_size = c.killers_empty.len ∙ s.killers_size; slots_size = s.slots_size }
+
   pub cleared_rules : {on on' : List ℕ} → p < 64 → RulesTo R.arity R.scope 64 on → RuleDropped p on on' → RulesTo R'.arity R'.scope 64 on'
   cleared_rules {on = on} {on' = on'} lp known d =
       dropped_rules R.arity R.scope R'.arity R'.scope on on' p lp known d c.written.arity

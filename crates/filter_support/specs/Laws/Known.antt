@@ -1,6 +1,6 @@
 -- How the masks of a call become known, and that strikes keep them. Assumes nothing.
-use Rattle.std.specs.Prelude.{◌≡◌, refl, List, ℕ, ◌*◌, ◌%◌, ◌^◌, ◌<◌, length, get_or, set}
-use Rattle.std.proofs.Common.{sym, ◌∙◌, ⊎_elim, arith, get_or-set_same, get_or-set_other}
+use Rattle.std.specs.Prelude.{◌≡◌, refl, List, ℕ, ◌+◌, ◌*◌, ◌%◌, ◌^◌, ◌≤◌, ◌<◌, length, get_or, set}
+use Rattle.std.proofs.Common.{sym, ◌∙◌, ⊎_elim, arith, eq-or-lt_of_le, get_or-set_same, get_or-set_other}
 use Rattle.std.specs.Int.Bits.{bit_and, bit_or}
 use Rattle.tables.specs.Masks.{Has, IsMask}
 use Rattle.tables.specs.Laws.Facts.{eq_or_ne}
@@ -11,13 +11,17 @@ use Rattle.masks.specs.Slots.{SetDifference}
 use Rattle.layout.specs.Places.{call_of, slot_place, cause_of}
 use Rattle.filter_support.specs.Walk.{StruckSets}
 use Rattle.filter_support.specs.Strikes.{SlotsStruck, CallWith, Lacks, AllOpen}
-use Rattle.filter_support.specs.Known.{KnownCall, Known, ColumnCall, Learnt, StillKnown}
+use Rattle.filter_support.specs.Known.{KnownCall, KnownCalls, Known, ColumnCall, Learnt, StillKnown}
 use Rattle.filter_support.specs.declared.known.CallMasks.{CallMasks}
 use Rattle.filter_support.specs.Laws.Strikes.{was_open, strikes_open}
 
 -- at first no call is known
 pub known_none : (slots : List ℕ) (masks : CallMasks) → masks.known ≡ 0 → Known slots masks
 known_none slots masks e = record { each = λ c l h. absurd (has_some masks.known c h e) }
+
+-- of what is known, a part
+pub known_some : {C D : ℕ → Type 0} {slots : List ℕ} {masks : CallMasks} → ((c : ℕ) → D c → C c) → KnownCalls C slots masks → KnownCalls D slots masks
+known_some f x = record { each = λ c l d. x.each c l (f c d) }
 
 -- ONE CALL: its masks are known, or are made
 pub learnt_before : (slots : List ℕ) (masks : CallMasks) (c : ℕ) → c < 32 → Known slots masks → (bit_and (1 * 2 ^ c % 4294967296) masks.known ≡ 0 → ⊥) → Learnt (λ d. d ≡ c) slots masks masks
@@ -59,6 +63,30 @@ learnt_made slots masks c {a} {b} l la lb x ma mb =
 
 -- THE CALLS OF A RULE'S COLUMNS, one after another
 module _ {scope : List ℕ} {p : ℕ} where
+  -- before the first
+  pub learnt_none : (slots : List ℕ) (masks : CallMasks) → Known slots masks → Learnt (ColumnCall scope p 0) slots masks masks
+  learnt_none slots masks x = record { masks = x; stays = λ d h. h; joins = λ d z. let l = z.inside in absurd (omega arith) }
+
+  -- one more
+  pub learnt_more : {k : ℕ} {slots : List ℕ} {before mid after : CallMasks} → Learnt (ColumnCall scope p k) slots before mid → Learnt (λ d. d ≡ call_of scope p k) slots mid after
+      → Learnt (ColumnCall scope p (k + 1)) slots before after
+  learnt_more {k} x y =
+      record {
+        masks = y.masks;
+        stays = λ d h. y.stays d (x.stays d h);
+        joins = λ d z.
+            let l = z.inside in
+            let le : z.column ≤ k = omega arith in
+            ⊎_elim
+            (λ (q : z.column ≡ k). y.joins d (rw q at z.is))
+            (λ lt. y.stays d (x.joins d (record { column = z.column; inside = lt; is = z.is })))
+            (eq-or-lt_of_le le);
+      }
+
+  -- after the last, where the loop's test says that k is n
+  pub learnt_at : {k n : ℕ} {slots : List ℕ} {before after : CallMasks} → Learnt (ColumnCall scope p k) slots before after → k ≤ n → n ≤ k → Learnt (ColumnCall scope p n) slots before after
+  learnt_at {k} {n} x l g = let e : n ≡ k = omega arith in rw e x
+
   -- the sets of the columns' calls are those of their struck slots
   pub struck_sets : {n : ℕ} {slots : List ℕ} {before masks : CallMasks} {x : Columns} → Learnt (ColumnCall scope p n) slots before masks → ColumnSets masks.struck scope p n x
       → StruckSets slots scope p n x
@@ -78,6 +106,11 @@ still_none slots masks = record { same = refl; each = λ c l k. k }
 pub still_more : {a b e : List ℕ} {x y z : CallMasks} → StillKnown a x b y → StillKnown b y e z → StillKnown a x e z
 still_more s t = record { same = t.same ∙ s.same; each = λ c l k. t.each c l (s.each c l k) }
 
+-- what is known of a set of calls stays known
+pub known_still : {C : ℕ → Type 0} {a b : List ℕ} {x y : CallMasks} → KnownCalls C a x → StillKnown a x b y → KnownCalls C b y
+known_still k s = record { each = λ c l h. s.each c l (k.each c l h) }
+
+-- and so do the calls that are said to be known
 pub masks_still : {a b : List ℕ} {x y : CallMasks} → Known a x → StillKnown a x b y → Known b y
 masks_still k s = record { each = λ c l h. s.each c l (k.each c l (rw s.same at h)) }
 

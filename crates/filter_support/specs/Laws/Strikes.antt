@@ -9,8 +9,8 @@ use Rattle.tables.specs.Lost.{OnlyLost}
 use Rattle.tables.specs.Masks.{Has, IsMask}
 use Rattle.layout.specs.Places.{call_of, slot_place, cause_of}
 use Rattle.tables.specs.Laws.Count.{count_le, count_set}
-use Rattle.tables.specs.Laws.Assign.{assign_none, assign_more, assign_same, assign_set, assign_keep}
-use Rattle.tables.specs.Laws.Left.{Left, Removed, Of, left_lowest, left_more, taken_lowest, assign_lowest, assign_taken}
+use Rattle.tables.specs.Laws.Assign.{assign_none, assign_more, assign_same, assign_at, assign_set, assign_keep}
+use Rattle.tables.specs.Laws.Left.{Left, Removed, Of, left_all, left_lowest, left_more, taken_lowest, assign_lowest, assign_taken}
 use Rattle.tables.specs.Laws.Lost.{only_some, only_same}
 use Rattle.tables.specs.Laws.Facts.{eq_or_ne}
 use Rattle.tables.specs.Laws.Masks.{power_same, power_has, shl_one, has_some, has_below, or_left, or_right, or_either}
@@ -37,6 +37,10 @@ module _ (Q : ℕ → ℕ → Type 0) (p : ℕ) where
   pub strikes_more : {n h r : ℕ} {a b c : List ℕ} → SlotsStruck (Below Q n) p h a b → SlotsStruck (Q n) p r b c → SlotsStruck (Below Q (n + 1)) p (h + r) a c
   strikes_more {n} {a = a} {b = b} {c = c} x y =
       record { assigned = assign_more 0 p OpenByte Q n a b c x.assigned y.assigned; drop = omega (arith, y.drop, x.drop) }
+
+  -- after the last round, where the loop's test says that n is m
+  pub strikes_at : {n m h : ℕ} {a b : List ℕ} → SlotsStruck (Below Q n) p h a b → n ≤ m → m ≤ n → SlotsStruck (Below Q m) p h a b
+  strikes_at x l g = record { assigned = assign_at 0 p OpenByte Q x.assigned l g; drop = x.drop }
 
 -- what is struck so far and next is no more than there are bytes
 pub strikes_fit : {P Q : ℕ → Type 0} {p h r : ℕ} (a b c : List ℕ) → SlotsStruck P p h a b → SlotsStruck Q p r b c → h + r ≤ length a
@@ -89,6 +93,10 @@ pub record Striking (lost p c : ℕ) (old new : List ℕ) (left total : ℕ) : T
   pub lowest_first : Left 32 lost left
   pub struck : SlotsStruck (Of (λ s j. j ≡ slot_place c s) (Removed lost left)) p total old new
 
+-- at first all are left and none is struck
+pub striking_none : (lost p c : ℕ) (l : List ℕ) → lost < 4294967296 → Striking lost p c l l lost 0
+striking_none lost p c l h = record { lowest_first = left_all 32 lost h; struck = strikes_keep _ p l (λ j q o. q.1.out q.1.had) }
+
 module _ {lost p c : ℕ} {old new : List ℕ} {left total : ℕ} (all : AllOpen old c lost) (some : left ≡ 0 → ⊥) (x : Striking lost p c old new left total) where
   pub slot_below : count_trailing_zeros 32 left < 32
   slot_below = (left_lowest some x.lowest_first).place
@@ -134,6 +142,9 @@ call_joins {calls} {c} l some =
       joins = λ s. or_right calls (2 ^ c) c (power_same c);
       only = λ d h. ⊎_elim (λ o. inl o) (λ o. inr (power_has c d o, some)) (or_either calls (2 ^ c) d h);
     })
+
+pub call_none : {calls c number : ℕ} → number ≡ 0 → WithCall calls c number calls
+call_none z = record { stays = λ d h. h; joins = λ s. absurd (omega arith); only = λ d h. inl h }
 
 -- when the slots of one call more are struck
 module _ (N : ℕ → Type 0) (c p : ℕ) (lp : p < 64) {Q : ℕ → Type 0} {h r : ℕ} (old mid new : List ℕ) (x : SlotsStruck Q p h old mid) (y : SlotsStruck (CallWith N c) p r mid new) where
@@ -193,3 +204,6 @@ module _ (N : ℕ → ℕ → Type 0) (scope : List ℕ) (p : ℕ) where
         strikes = strikes_more (ColumnWith N scope p) p x.strikes y;
         calls_struck = calls_more (N k) (call_of scope p k) p lp a b d x.strikes y (omega arith) x.calls_struck w;
       }
+
+  pub columns_at_lem : {k n h calls : ℕ} {a b : List ℕ} → ColumnsStruck N scope p k h calls a b → k ≤ n → n ≤ k → ColumnsStruck N scope p n h calls a b
+  columns_at_lem x l g = record { strikes = strikes_at _ p x.strikes l g; calls_struck = x.calls_struck }

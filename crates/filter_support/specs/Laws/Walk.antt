@@ -15,6 +15,14 @@ use Rattle.tables.specs.Laws.Masks.{power_same, power_has, apart_clear, clear_ap
 use Rattle.tables.specs.Laws.Sweep.{one_set, swept_none, swept_more}
 use Rattle.masks.specs.Laws.Columns.{none_in, first_same, first_in}
 
+-- THE FIRST MEETING: none before column r, and one there
+pub meeting_at : (x y : Columns) {r : ℕ} → r < 4 → (bit_and (column_of x r) (column_of y r) ≡ 0 → ⊥) → ((k : ℕ) → k < r → bit_and (column_of x k) (column_of y k) ≡ 0) → FirstMeeting x y r
+meeting_at x y l here before = record { none = λ e. absurd (omega arith); some = λ n. (l, here, before) }
+
+-- and where the sets meet in no column it is 255
+pub meeting_none : (x y : Columns) → ((k : ℕ) → k < 4 → bit_and (column_of x k) (column_of y k) ≡ 0) → FirstMeeting x y 255
+meeting_none x y none = record { none = λ e. none; some = λ n. absurd (n refl) }
+
 -- A ROW'S KILLER, from the masks of its slots
 module _ (rows : List ℕ) (row struck : Columns) (p w : ℕ) (masks : RowMasks rows p w row) where
   -- the row's slot of a column is struck where the two sets meet there
@@ -110,6 +118,10 @@ module _ (rows : List ℕ) (struck : Columns) (p : ℕ) where
           (λ t. record { row = w; inside = omega arith; lives = t.0; holds = t.1 })
           (b.only k s l i)
 
+  -- after the last round, where the loop's test says that w is m
+  pub walked_at : {w m : ℕ} {killers killed : List ℕ} {x : Columns} → Walked rows struck p w killers killed x → w ≤ m → m ≤ w → Walked rows struck p m killers killed x
+  walked_at {w} {m} a l g = let e : m ≡ w = omega arith in rw e a
+
 -- WHAT THE MASKS MEAN: a row is killed as its slots' bytes say
 module _ (rows slots scope : List ℕ) (p n : ℕ) (few : n ≤ 4) (struck : Columns) (known : StruckSets slots scope p n struck) where
   in_struck : (w k : ℕ) → k < n → InColumn struck k (slot_of rows p w k) → HoldsStruck rows slots scope p w k
@@ -144,17 +156,29 @@ module _ (rows slots scope : List ℕ) (p n : ℕ) (few : n ≤ 4) (struck : Col
   pub walk_kills : {m : ℕ} {killers killed : List ℕ} → Swept 0 (MaskKilled rows struck p) (64 * p) m killers killed → Swept 0 (Killed rows slots scope p n) (64 * p) m killers killed
   walk_kills s = record { len = s.len; inside = λ w l. killed_by w _ _ (s.inside w l); below = s.below; above = s.above }
 
--- A RULE OF n COLUMNS: a walk over the first m of them, where the others are empty
-module _ {rows : List ℕ} {struck : Columns} {p n h : ℕ} {killers killed : List ℕ} {x : Columns} where
-  pub walked_first : (m : ℕ) → 1 < m → n ≤ m → n ≤ 4 → PastEmpty n struck → Walked rows (first_columns m struck) p h killers killed x
-      → WalkedColumns rows struck p n h killers killed (first_columns m x)
-  walked_first m two few four past w =
-      let v : Walked rows struck p h killers killed x = rw (first_same m two struck n few past) at w in
+-- A RULE OF FEWER COLUMNS: what is found in the others is thrown away
+module _ {rows : List ℕ} {struck : Columns} {p h : ℕ} {killers killed : List ℕ} {x : Columns} where
+  pub walked_first : (m : ℕ) → 1 < m → (n : ℕ) → n ≤ m → n ≤ 4 → Walked rows struck p h killers killed x → WalkedColumns rows struck p n h killers killed (first_columns m x)
+  walked_first m two n few four v =
       record {
         kills = v.kills;
         has = λ k s lk i. rw (first_in m two x k (omega arith) (omega arith)) (v.has k s (omega arith) i);
         only = λ k s lk i. v.only k s (omega arith) (rw (first_in m two x k (omega arith) (omega arith)) at i);
       }
+
+  -- of two columns at most, of three at most, and of any number
+  pub walked_two : (n : ℕ) → n < 3 → Walked rows struck p h killers killed x → WalkedColumns rows struck p n h killers killed (first_columns 2 x)
+  walked_two n l = walked_first 2 (omega arith) n (omega arith) (omega arith)
+
+  pub walked_three : (n : ℕ) → n < 4 → Walked rows struck p h killers killed x → WalkedColumns rows struck p n h killers killed (first_columns 3 x)
+  walked_three n l = walked_first 3 (omega arith) n (omega arith) (omega arith)
+
+  pub walked_four : (n : ℕ) → n ≤ 4 → Walked rows struck p h killers killed x → WalkedColumns rows struck p n h killers killed x
+  walked_four n l = walked_first 4 (omega arith) n l l
+
+  -- where the columns past n are empty, a walk by the first m sets is one by all
+  pub walked_past : (m : ℕ) → 1 < m → (n : ℕ) → n ≤ m → PastEmpty n struck → Walked rows (first_columns m struck) p h killers killed x → Walked rows struck p h killers killed x
+  walked_past m two n few past w = rw (first_same m two struck n few past) at w
 
 -- A SLOT THAT IS NOT FOUND has no support
 module _ {rows : List ℕ} {struck : Columns} {p m : ℕ} {killers killed : List ℕ} {x : Columns} {n : ℕ} (v : WalkedColumns rows struck p n m killers killed x) where
