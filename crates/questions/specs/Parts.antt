@@ -6,9 +6,25 @@ use Rattle.layout.specs.Sizes.{killers_length, rows_length}
 use Rattle.model.specs.Tests.{first}
 use Rattle.model.specs.Questions.{supports?, found_row}
 
--- the parts that the search of a support is lent
+-- the parts that functions are lent: for a call or a slot of it, for a rule, a row of it, a support, and for the search of one
+abbrev pub call_parts : List ℕ → List ℕ → List ℕ → List ℕ → State
+call_parts counts rows killers slots = state_of_parts counts [] [] [] rows killers slots
+
+abbrev pub rule_parts : List ℕ → List ℕ → List ℕ → List ℕ → List ℕ → State
+rule_parts counts arity rows killers slots = state_of_parts counts arity [] [] rows killers slots
+
+abbrev pub row_parts : List ℕ → List ℕ → List ℕ → List ℕ → List ℕ → List ℕ → State
+row_parts counts arity lengths rows killers slots = state_of_parts counts arity [] lengths rows killers slots
+
+abbrev pub support_parts : List ℕ → List ℕ → List ℕ → List ℕ → List ℕ → List ℕ → State
+support_parts counts arity scope rows killers slots = state_of_parts counts arity scope [] rows killers slots
+
 abbrev pub search_parts : List ℕ → List ℕ → State
 search_parts rows killers = state_of_parts [] [] [] [] rows killers []
+
+-- the same with the numbers of rows
+abbrev pub length_parts : List ℕ → List ℕ → List ℕ → State
+length_parts lengths rows killers = state_of_parts [] [] [] lengths rows killers []
 
 -- THE SUPPORT IN AN ACTIVE COLUMN: the lowest of the rule's rows that is alive and has the slot there, or none
 abbrev pub active_support : State → ℕ → ℕ → ℕ → Option ℕ

@@ -13,7 +13,7 @@ ghost use Rattle.questions.specs.RowPart.{RowPart};
 use crate::read::{call_of, lowest_support, open_mask};
 use crate::refusal::{call_refusal, row_refusal, slot_refusal, support_refusal};
 use layout::places::{CANCELLED, byte_at, is_cancelled};
-use layout::value::Value;
+use layout::value::{Heads, Value};
 use model::answer::{OpenSlots, RowState, SlotState};
 use model::refusal::Refusal;
 
@@ -27,7 +27,8 @@ pub fn open_slots(
 ) -> Result<OpenSlots, Refusal>
     ensures { SlotsPromise (memory value rows.now killers.now slots.now) call result }
 {
-    call_refusal(&value.heads, rows, killers, slots, call)?;
+    let counts = value.heads.counts;
+    call_refusal(&counts, rows, killers, slots, call)?;
     let mask = open_mask(slots, call);
     Ok(OpenSlots {
         mask,
@@ -46,7 +47,8 @@ pub fn slot_state(
 ) -> Result<SlotState, Refusal>
     ensures { StatePromise (memory value rows.now killers.now slots.now) call slot result }
 {
-    slot_refusal(&value.heads, rows, killers, slots, call, slot)?;
+    let counts = value.heads.counts;
+    slot_refusal(&counts, rows, killers, slots, call, slot)?;
     // a value that the host altered may count more than 32 slots, so the place may lie past the buffer
     match byte_at(slots, 32 * usize::from(call) + usize::from(slot)) {
         255 => Ok(SlotState::Open),
@@ -66,7 +68,10 @@ pub fn row_state(
 ) -> Result<RowState, Refusal>
     ensures { RowPromise (memory value rows.now killers.now slots.now) rule row result }
 {
-    row_refusal(&value.heads, rows, killers, slots, rule, row)?;
+    let counts = value.heads.counts;
+    let arity = value.heads.arity;
+    let lengths = value.heads.lengths;
+    row_refusal(&counts, &arity, &lengths, rows, killers, slots, rule, row)?;
     match killers[64 * usize::from(rule) + usize::from(row)] {
         255 => Ok(RowState::Alive),
         byte => Ok(RowState::Killed(byte)),
@@ -84,7 +89,10 @@ pub fn row_bytes<'a>(
 ) -> &'a [u8]
     ensures { RowPart value rows.entry killers.now slots.now rule row result }
 {
-    if row_refusal(&value.heads, rows, killers, slots, rule, row).is_err() {
+    let counts = value.heads.counts;
+    let arity = value.heads.arity;
+    let lengths = value.heads.lengths;
+    if row_refusal(&counts, &arity, &lengths, rows, killers, slots, rule, row).is_err() {
         return &rows[..0];
     }
     let start = 256 * usize::from(rule) + 4 * usize::from(row);
@@ -103,9 +111,17 @@ pub fn support(
 ) -> Result<Option<u8>, Refusal>
     ensures { SupportPromise (memory value rows.now killers.now slots.now) rule column slot result }
 {
-    support_refusal(&value.heads, rows, killers, slots, rule, column, slot)?;
-    if is_cancelled(slots, call_of(&value.heads, rule, column)) {
+    let Heads {
+        counts,
+        arity,
+        scope,
+        lengths,
+    } = value.heads;
+    support_refusal(
+        &counts, &arity, &scope, rows, killers, slots, rule, column, slot,
+    )?;
+    if is_cancelled(slots, call_of(&scope, rule, column)) {
         return Ok(None);
     }
-    Ok(lowest_support(&value.heads, rows, killers, rule, column, slot))
+    Ok(lowest_support(&lengths, rows, killers, rule, column, slot))
 }

@@ -1,41 +1,39 @@
 // What the questions read: bytes of the value and of the lent buffers.
-ghost use Rattle.std.specs.Prelude.{◌≡◌, ◌+◌, [], get_or};
-ghost use Rattle.layout.specs.Memory.{state_of_heads};
+ghost use Rattle.std.specs.Prelude.{◌≡◌, ◌+◌, get_or};
 ghost use Rattle.layout.specs.Places.{columns_of, rows_of, scope_place};
 ghost use Rattle.model.specs.Report.{open?};
-ghost use Rattle.model.specs.Questions.{slots_held, mask_of, supports?};
-ghost use Rattle.questions.specs.Parts.{search_parts, Searchable, active_support};
+ghost use Rattle.model.specs.Questions.{mask_of, supports?};
+ghost use Rattle.questions.specs.Parts.{search_parts, length_parts, Searchable, active_support};
 
 use crate::weights::slot_weights;
 use layout::places::byte_at;
-use layout::value::Heads;
 
 // The slots of a call; 0 where there is no such call.
-pub fn slots_held(heads: &Heads, call: u8) -> u8
-    ensures { result ≡ slots_held heads.now call }
+pub fn slots_held(counts: &[u8; 32], call: u8) -> u8
+    ensures { result ≡ get_or counts.now call 0 }
 {
-    byte_at(&heads.counts, usize::from(call))
+    byte_at(counts, usize::from(call))
 }
 
 // The columns of a rule; 0 where the number is not in force.
-pub fn columns_of(heads: &Heads, rule: u8) -> u8
-    ensures { result ≡ columns_of heads.now.arity rule }
+pub fn columns_of(arity: &[u8; 64], rule: u8) -> u8
+    ensures { result ≡ columns_of arity.now rule }
 {
-    byte_at(&heads.arity, usize::from(rule)).min(4)
+    byte_at(arity, usize::from(rule)).min(4)
 }
 
 // The rows of a rule.
-pub fn rows_of(heads: &Heads, rule: u8) -> u8
-    ensures { result ≡ rows_of heads.now.lengths rule }
+pub fn rows_of(lengths: &[u8; 64], rule: u8) -> u8
+    ensures { result ≡ rows_of lengths.now rule }
 {
-    byte_at(&heads.lengths, usize::from(rule)).min(64)
+    byte_at(lengths, usize::from(rule)).min(64)
 }
 
 // The call of a rule's column.
-pub fn call_of(heads: &Heads, rule: u8, column: u8) -> u8
-    ensures { result ≡ get_or heads.now.scope (scope_place rule column) 0 }
+pub fn call_of(scope: &[u8; 256], rule: u8, column: u8) -> u8
+    ensures { result ≡ get_or scope.now (scope_place rule column) 0 }
 {
-    byte_at(&heads.scope, 4 * usize::from(rule) + usize::from(column))
+    byte_at(scope, 4 * usize::from(rule) + usize::from(column))
 }
 
 // The mask of a call's open slots: the sum of their weights.
@@ -64,17 +62,17 @@ fn supports(rows: &[u8], killers: &[u8], rule: u8, row: u8, column: u8, slot: u8
 
 // The lowest living row of the rule that holds the slot in the column, or none.
 pub fn lowest_support(
-    heads: &Heads,
+    lengths: &[u8; 64],
     rows: &[u8],
     killers: &[u8],
     rule: u8,
     column: u8,
     slot: u8,
 ) -> Option<u8>
-    requires { Searchable rows.now killers.now rule (rows_of heads.now.lengths rule) column }
-    ensures { result ≡ active_support (state_of_heads heads.now rows.now killers.now []) rule column slot }
+    requires { Searchable rows.now killers.now rule (rows_of lengths.now rule) column }
+    ensures { result ≡ active_support (length_parts lengths.now rows.now killers.now) rule column slot }
 {
-    for row in 0..rows_of(heads, rule) {
+    for row in 0..rows_of(lengths, rule) {
         if supports(rows, killers, rule, row, column, slot) {
             return Some(row);
         }

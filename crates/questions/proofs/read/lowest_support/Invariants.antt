@@ -8,4 +8,4 @@ use Rattle.questions.proofs.read.lowest_support.Given as goal
 
 abbrev pub invariant-loop-row : goal.invariant-loop-row
 invariant-loop-row l =
-    (l.row-end ≡ rows_of l.heads.lengths l.rule) × (some? l.row (supports? (search_parts l.rows l.killers) l.rule l.column l.slot) ≡ false)
+    (l.row-end ≡ rows_of l.lengths l.rule) × (some? l.row (supports? (search_parts l.rows l.killers) l.rule l.column l.slot) ≡ false)
