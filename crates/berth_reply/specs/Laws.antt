@@ -1,2 +1,3 @@
 -- The theorems over the definitions.
 pub mod Places
+pub mod First

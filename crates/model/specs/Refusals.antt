@@ -67,6 +67,19 @@ abbrev pub Checked : Refusal → Bool → Result (Unit {0}) Refusal → Type 0
 Checked e holds (Ok u) = holds ≡ false
 Checked e holds (Err f) = (holds ≡ true) × (f ≡ e)
 
+-- WHAT THE CODE DOES with a list of checks, a line of `when` with `?` for each: a check whose condition holds stops it with its refusal, whatever follows; one whose condition
+-- does not hold leaves the answer to the rest; and with no check left there is nothing to refuse
+pub data Chain : List (Bool × Refusal) → Result (Unit {0}) Refusal → Type 0 where
+  ends : {u : Unit {0}} → Chain [] (Ok u)
+  stops : {holds : Bool} {e f : Refusal} {xs : List (Bool × Refusal)} → Checked e holds (Err f) → Chain ((holds, e) ∷ xs) (Err f)
+  goes : {holds : Bool} {e : Refusal} {u : Unit {0}} {xs : List (Bool × Refusal)} {r : Result (Unit {0}) Refusal} → Checked e holds (Ok u) → Chain xs r
+      → Chain ((holds, e) ∷ xs) r
+
+-- each refusal by its number
+abbrev pub with_numbers : List (Bool × Refusal) → List (Bool × ℕ)
+with_numbers [] = []
+with_numbers (x ∷ xs) = (x.0, number x.1) ∷ with_numbers xs
+
 -- AN ANSWER BY A NUMBER: what is to be answered where the number is 0, else the refusal that has it
 abbrev pub AnsweredBy : {A : Type 0} → ℕ → A → Result A Refusal → Type 0
 AnsweredBy n a (Ok b) = (n ≡ 0) × (b ≡ a)

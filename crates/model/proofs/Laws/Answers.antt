@@ -1,9 +1,9 @@
 -- AN ANSWER IS KNOWN by its number and values. Assumes nothing.
 use Rattle.std.specs.Prelude.{◌≡◌, refl, List, ℕ, suc, length, Ok, Err}
-use Rattle.std.proofs.Common.{ap, arith}
+use Rattle.std.proofs.Common.{sym, ap, ◌∙◌, arith}
 use Rattle.model.specs.declared.answer.Report.{Report}
 use Rattle.model.specs.declared.refusal.Refusal.{Refusal}
-use Rattle.model.specs.Promise.{Answer, report_values, values_of, NeverZero, MemoryPromise}
+use Rattle.model.specs.Promise.{Answer, report_values, values_of, NeverZero, values_at, MemoryPromise}
 use Rattle.model.specs.Refusals.{number, number_of}
 use Rattle.model.proofs.Laws.Refusals.{number_not_zero}
 use Rattle.layout.specs.Memory.{MarkedState}
@@ -28,10 +28,18 @@ accepted_by (Err f) r e = let z : ◌≡◌ {A = ℕ} 0 3 = ap length e in absur
 
 -- no answer is refused under 0
 pub never_zero : (a : Answer) → NeverZero a
-never_zero a f e z = number_not_zero f z
+never_zero a f e z = absurd (number_not_zero f z)
+
+-- an answer by a number and its values is never refused 0: values go with 0
+pub never_zero_by : (a : Answer) (n : ℕ) (r : Report) → number_of a ≡ n → values_of a ≡ values_at n (report_values r) → NeverZero a
+never_zero_by a n r named values f e z =
+    let none : n ≡ 0 = sym named ∙ ap number_of e ∙ z in
+    let accepted = accepted_by a r (values ∙ ap (λ (m : ℕ). values_at m (report_values r)) none) in
+    let zero : ◌≡◌ {A = ℕ} 0 3 = ap length (sym (ap values_of e) ∙ ap values_of accepted) in
+    absurd (omega arith)
 
 -- ON ANY MEMORY the number 0 is that of an accepted command and of nothing else
 pub accepted_zero : {lent : CommandLent} {before after : MarkedState} {bytes : List ℕ} (given : Answer) → MemoryPromise lent before bytes given after → number_of given ≡ 0
     → (r : Report) × (given ≡ Ok r)
 accepted_zero (Ok r) promise e = (r, refl)
-accepted_zero (Err f) promise e = absurd (number_not_zero f e)
+accepted_zero (Err f) promise e = absurd (promise.never_zero f refl e)

@@ -1,10 +1,10 @@
 -- ALL LAWS ABOUT THE FIRST CONDITION THAT HOLDS, over any list: a condition is read by its number and never by its place; and about answers by their numbers. Assumes nothing.
-use Rattle.std.specs.Prelude.{◌≡◌, refl, Bool, true, false, ◌&&◌, cond, List, [], ◌∷◌, ◌++◌, ℕ, zero, suc, T, eqb, get_or, Result, Ok, Err}
+use Rattle.std.specs.Prelude.{◌≡◌, refl, Bool, true, false, ◌&&◌, cond, List, [], ◌∷◌, ◌++◌, ◌≢◌, ℕ, zero, suc, T, eqb, get_or, Result, Ok, Err}
 use Rattle.std.proofs.Common.{sym, ap, ◌∙◌, arith}
 use Rattle.model.specs.declared.refusal.Refusal.{Refusal}
 use Rattle.model.specs.declared.refusal.Refusal.TheVariants as kind
 use Rattle.model.specs.Promise.{values_at}
-use Rattle.model.specs.Refusals.{number, first_of, condition_of, is_refusal, numbered, number_of, Checked, AnsweredBy}
+use Rattle.model.specs.Refusals.{number, first_of, condition_of, is_refusal, numbered, number_of, Checked, Chain, ends, stops, goes, with_numbers, AnsweredBy}
 
 -- EVERY REFUSAL HAS A NUMBER OF ITS OWN, and none is 0
 number_some : (e : Refusal) → is_refusal (number e) ≡ true
@@ -98,6 +98,48 @@ pub check_last : (e : Refusal) (holds : Bool) (r : Result (Unit {0}) Refusal) �
 check_last e holds (Ok u) c = rw c refl
 check_last e holds (Err f) c = check_failed e holds f [] c
 
+-- THE CHAIN GIVES THE FIRST that holds
+pub chain_first : (xs : List (Bool × Refusal)) (r : Result (Unit {0}) Refusal) → Chain xs r → number_of r ≡ first_of (with_numbers xs)
+chain_first [] r ends = refl
+chain_first (x ∷ xs) r (stops {holds} {e} {f} c) = check_failed e holds f (with_numbers xs) c
+chain_first (x ∷ xs) r (goes c rest) = rw c (chain_first xs r rest)
+
+-- the last check, which has no `?` behind it
+pub chain_last : (e : Refusal) (holds : Bool) (r : Result (Unit {0}) Refusal) → Checked e holds r → Chain ((holds, e) ∷ []) r
+chain_last e holds (Ok u) c = goes {u = u} c ends
+chain_last e holds (Err f) c = stops c
+
+-- a list of checks gives one answer
+pub chain_one : (xs : List (Bool × Refusal)) (q r : Result (Unit {0}) Refusal) → Chain xs q → Chain xs r → q ≡ r
+chain_one [] q r ends ends = refl
+chain_one (x ∷ xs) q r (stops c) (stops d) = ap Err (c.1 ∙ sym d.1)
+chain_one (x ∷ xs) q r (stops c) (goes d rest) = let z : true ≡ false = sym c.0 ∙ d in absurd cc
+chain_one (x ∷ xs) q r (goes c rest) (stops d) = let z : true ≡ false = sym d.0 ∙ c in absurd cc
+chain_one (x ∷ xs) q r (goes c more) (goes d rest) = chain_one xs q r more rest
+
+-- a refusal stands: what follows it changes nothing
+pub stands : (xs ys : List (Bool × Refusal)) (f : Refusal) → Chain xs (Err f) → Chain (xs ++ ys) (Err f)
+stands [] ys f c = elim c [ ]
+stands (x ∷ xs) ys f (stops c) = stops c
+stands (x ∷ xs) ys f (goes {u} c rest) = goes {u = u} c (stands xs ys f rest)
+
+-- the rest of a chain, behind the answer so far: a refusal stands, and where there is none the list decides
+abbrev pub ChainFrom : Result (Unit {0}) Refusal → List (Bool × Refusal) → Result (Unit {0}) Refusal → Type 0
+ChainFrom (Ok u) xs r = Chain xs r
+ChainFrom (Err f) xs r = r ≡ Err f
+
+-- a chain may be gone through in two parts
+pub chain_append : (xs ys : List (Bool × Refusal)) (q r : Result (Unit {0}) Refusal) → Chain xs q → ChainFrom q ys r → Chain (xs ++ ys) r
+chain_append [] ys q r ends rest = rest
+chain_append (x ∷ xs) ys q r (stops c) rest = rw rest (stops c)
+chain_append (x ∷ xs) ys q r (goes {u} c more) rest = goes {u = u} c (chain_append xs ys q r more rest)
+
+-- and each chain is gone through so
+pub chain_parts : (xs ys : List (Bool × Refusal)) (r : Result (Unit {0}) Refusal) → Chain (xs ++ ys) r → (q : Result (Unit {0}) Refusal) × Chain xs q × ChainFrom q ys r
+chain_parts [] ys r c = (Ok tt, ends, c)
+chain_parts (x ∷ xs) ys r (stops {f} c) = (Err f, stops c, refl)
+chain_parts (x ∷ xs) ys r (goes {u} c rest) = let p = chain_parts xs ys r rest in (p.0, goes {u = u} c p.1, p.2)
+
 -- WHERE NOTHING IS REFUSED no condition holds, whatever its number
 pub none_holds : (xs : List (Bool × ℕ)) → T (numbered xs) → first_of xs ≡ 0 → (n : ℕ) → condition_of n xs ≡ false
 none_holds [] t e n = refl
@@ -158,6 +200,11 @@ answered_number n a (Err e) h = h
 pub answered_with : {A : Type 0} (n : ℕ) (a : A) (given : Result A Refusal) → AnsweredBy n a given → n ≡ 0 → given ≡ Ok a
 answered_with n a (Ok b) h z = ap Ok h.1
 answered_with n a (Err e) h z = absurd (number_not_zero e (h ∙ z))
+
+-- and one that is not 0 is the refusal that has it
+pub refused_by : {A : Type 0} (n : ℕ) (a : A) (given : Result A Refusal) → AnsweredBy n a given → n ≢ 0 → (e : Refusal) × (given ≡ Err e) × (number e ≡ n)
+refused_by n a (Ok b) h r = absurd (r h.0)
+refused_by n a (Err e) h r = (e, refl, h)
 
 pub no_values : (n : ℕ) (vs : List ℕ) → (n ≡ 0 → ⊥) → values_at n vs ≡ []
 no_values zero vs ne = absurd (ne refl)

@@ -1,11 +1,15 @@
 -- WHAT THE QUESTION'S FUNCTION SHOWS of its answer, to meet its promise: the first of its checks that holds is the refusal, and where none does the answer is the lowest
 -- broken rule. Assumes nothing.
-use Rattle.std.specs.Prelude.{◌≡◌, refl, Bool, true, false, List, ◌≢◌, ℕ, ◌<◌, ◌≤◌, length, get_or, Option, Some, None, Ok, Err}
-use Rattle.std.proofs.Common.{sym, ◌∙◌, arith, lt-ltb, ne_eqb}
-use Rattle.layout.specs.Memory.{State}
+use Rattle.std.specs.Prelude.{◌≡◌, refl, Bool, true, false, List, ◌≢◌, ℕ, ◌<◌, ◌≤◌, length, get_or, eqb, Option, Some, None, Ok, Err}
+use Rattle.std.proofs.Common.{sym, ◌∙◌, arith, lt-ltb, ne_eqb, eqb-true}
+use Rattle.std.proofs.lemmas.Bool.{not-false}
+use Rattle.layout.specs.Memory.{State, lent_of}
 use Rattle.layout.specs.Sizes.{rows_length, killers_length, slots_length}
 use Rattle.model.specs.Tests.{some?}
 use Rattle.model.specs.Refusals.{number, first_of}
+use Rattle.model.specs.Numbers as numbers
+use Rattle.model.proofs.Laws.Refusals.{none_holds}
+use Rattle.model.proofs.Laws.Shapes.{lent_sizes}
 use Rattle.model.proofs.Laws.Tests.{→T}
 use Rattle.model.proofs.Laws.Search.{NoneBelow}
 use Rattle.model.proofs.Laws.Questions.{first_found, first_none}
@@ -47,6 +51,14 @@ module _ (s : State) (bytes : List ℕ) where
         plan_given right {found} lowest =
             plan_promise s bytes (Ok found) (rw (r, k, l, z, ne_eqb (get_or s.value.heads.counts 0 0) 0 n, sym is ∙ right) refl, lowest)
 
+-- THE LENGTHS behind checks that refuse nothing
+module _ (s : State) (bytes : List ℕ) {n : ℕ} (e : n ≡ first_of (plan_checks s bytes)) where
+  pub rows_size : n ≡ 0 → length s.rows ≡ rows_length
+  rows_size z = (lent_sizes (lent_of s) (none_holds (plan_checks s bytes) tt (sym e ∙ z) numbers.buffer_length)).0
+
+  pub plan_size_lem : n ≡ 0 → length bytes ≡ plan_size
+  plan_size_lem z = eqb-true (length bytes) plan_size (not-false (eqb (length bytes) plan_size) (none_holds (plan_checks s bytes) tt (sym e ∙ z) numbers.plan_length))
+
 -- THE LOOP OVER THE BYTES, when it is through
 module _ (held : ℕ → ℕ) (bytes : List ℕ) where
   abbrev pub wrong_at : ℕ → Bool
@@ -58,10 +70,17 @@ module _ (held : ℕ → ℕ) (bytes : List ℕ) where
 
 -- THE LOOP OVER THE RULES: the first that is broken, or none
 module _ (R : RulesRead) (bytes : List ℕ) {p : ℕ} (none : NoneBelow (breaks? R bytes) p) where
-  pub lowest_found : p < 64 → true ≡ breaks? R bytes p → Some p ≡ broken_answer (lowest_broken R bytes)
+  pub lowest_found : p < 64 → true ≡ breaks? R bytes p → p ≡ lowest_broken R bytes
   unfolding lowest_broken
-  lowest_found h e = rw (first_found 64 (breaks? R bytes) p h (→T (breaks? R bytes p) (sym e)) none.none, lt-ltb p 64 h) refl
+  lowest_found h e = sym (first_found 64 (breaks? R bytes) p h (→T (breaks? R bytes p) (sym e)) none.none)
 
-  pub lowest_none : p ≤ 64 → 64 ≤ p → None ≡ broken_answer (lowest_broken R bytes)
+  pub lowest_none : p ≤ 64 → 64 ≤ p → 64 ≡ lowest_broken R bytes
   unfolding lowest_broken
-  lowest_none h k = let all : p ≡ 64 = omega arith in rw (first_none 64 (breaks? R bytes) (rw all at none.none)) refl
+  lowest_none h k = let all : p ≡ 64 = omega arith in sym (first_none 64 (breaks? R bytes) (rw all at none.none))
+
+  -- and the answer by it
+  pub broken_found : p < 64 → true ≡ breaks? R bytes p → Some p ≡ broken_answer (lowest_broken R bytes)
+  broken_found h e = rw (← lowest_found h e, lt-ltb p 64 h) refl
+
+  pub broken_none : p ≤ 64 → 64 ≤ p → None ≡ broken_answer (lowest_broken R bytes)
+  broken_none h k = rw (← lowest_none h k) refl

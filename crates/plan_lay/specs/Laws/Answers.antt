@@ -1,11 +1,14 @@
 -- WHAT THE QUESTION'S FUNCTIONS SHOW of the answer, to meet its promise: the search by the tables is the search off the memory, the answer is what it ended with, and
 -- the first of the checks that holds is the refusal. Assumes nothing.
 use Rattle.std.specs.Prelude.{◌≡◌, refl, List, ◌≢◌, ℕ, ◌+◌, ◌-◌, ◌<◌, min, length, get_or, Ok, Err}
-use Rattle.std.proofs.Common.{ap, ◌∙◌, arith, ne_eqb}
-use Rattle.layout.specs.Memory.{State}
+use Rattle.std.proofs.Common.{sym, ap, ◌∙◌, arith, ne_eqb}
+use Rattle.layout.specs.Memory.{State, lent_of}
 use Rattle.layout.specs.Sizes.{rows_length, killers_length, slots_length}
 use Rattle.model.specs.Refusals.{number, first_of}
 use Rattle.model.specs.Questions.{board_checks}
+use Rattle.model.specs.Numbers as numbers
+use Rattle.model.proofs.Laws.Refusals.{none_holds}
+use Rattle.model.proofs.Laws.Shapes.{lent_sizes}
 use Rattle.model.specs.declared.refusal.Refusal.{Refusal}
 use Rattle.model.specs.declared.refusal.Refusal.TheVariants as refused
 use Rattle.plan_search.specs.declared.answer.FirstPlan.{FirstPlan}
@@ -40,6 +43,9 @@ module _ (s : State) (ceiling : ℕ) where
   refused_under f e = first_promise s ceiling (Err f) e
 
   -- a buffer is not as long as it has to be
+  pub rows_refused : length s.rows ≢ rows_length → FirstPromise s ceiling (Err refused.BufferLength)
+  rows_refused n = refused_under refused.BufferLength (rw (ne_eqb (length s.rows) rows_length n) refl)
+
   pub killers_refused : length s.rows ≡ rows_length → length s.killers ≢ killers_length → FirstPromise s ceiling (Err refused.BufferLength)
   killers_refused r n = refused_under refused.BufferLength (rw (r, ne_eqb (length s.killers) killers_length n) refl)
 
@@ -53,3 +59,11 @@ module _ (s : State) (ceiling : ℕ) where
 
     pub first_given : {a : FirstPlan} → get_or s.value.heads.counts 0 0 ≢ 0 → a ≡ first_shown s ceiling → FirstPromise s ceiling (Ok a)
     first_given {a} n h = first_promise s ceiling (Ok a) (rw (r, k, l, ne_eqb (get_or s.value.heads.counts 0 0) 0 n) refl, h)
+
+-- THE LENGTHS behind checks that refuse nothing
+module _ (s : State) {n : ℕ} (e : n ≡ first_of (board_checks s)) where
+  pub lent_rows : n ≡ 0 → length s.rows ≡ rows_length
+  lent_rows z = (lent_sizes (lent_of s) (none_holds (board_checks s) tt (sym e ∙ z) numbers.buffer_length)).0
+
+  pub lent_slots : n ≡ 0 → length s.slots ≡ slots_length
+  lent_slots z = (lent_sizes (lent_of s) (none_holds (board_checks s) tt (sym e ∙ z) numbers.buffer_length)).2

@@ -25,7 +25,7 @@ below_lowest (suc k) m i h = go i (m % 2) refl h (λ j l. below_lowest k (m / 2)
     go (suc i) zero e h ih = ih i (omega arith)
     go i (suc d) e h ih = absurd (omega arith)
 
-module _ (mask s : ℕ) (small : mask < 2 ^ 32) where
+module _ (mask s : ℕ) where
   shifted : (i : ℕ) → s ≤ i → bit_of mask i ≡ bit_of (mask / 2 ^ s) (i - s)
   shifted i h = let e : s + (i - s) ≡ i = omega arith in sym (bit_above mask s (i - s) ∙ ap (bit_of mask) e)
 
@@ -37,17 +37,22 @@ module _ (mask s : ℕ) (small : mask < 2 ^ 32) where
         here = λ h. absurd (omega arith);
       }
 
-  pub next_found : mask / 2 ^ s ≢ 0 → mask / 2 ^ s ≤ mask → NextOpen mask s (Some (s + count_trailing_zeros 64 (mask / 2 ^ s)))
+  found_here : mask / 2 ^ s ≢ 0 → mask / 2 ^ s < 2 ^ 64 → bit_of mask (s + count_trailing_zeros 64 (mask / 2 ^ s)) ≡ 1
+  found_here n le = let low = lowest 64 (mask / 2 ^ s) le (omega arith) in sym (bit_above mask s (count_trailing_zeros 64 (mask / 2 ^ s))) ∙ low.here
+
+  pub next_found : mask / 2 ^ s ≢ 0 → mask / 2 ^ s < 2 ^ 64 → FirstOpen mask s (s + count_trailing_zeros 64 (mask / 2 ^ s))
   next_found n le =
-      let low = lowest 64 (mask / 2 ^ s) (omega arith) (omega arith) in
-      let here : bit_of mask (s + count_trailing_zeros 64 (mask / 2 ^ s)) ≡ 1 = sym (bit_above mask s (count_trailing_zeros 64 (mask / 2 ^ s))) ∙ low.here in (
-        has_below 32 mask (s + count_trailing_zeros 64 (mask / 2 ^ s)) small here,
-        record {
-          from = omega arith;
-          closed = λ i h l. shifted i h ∙ below_lowest 64 (mask / 2 ^ s) (i - s) (omega arith);
-          here = λ h. here;
-        },
-      )
+      record {
+        from = omega arith;
+        closed = λ i h l. shifted i h ∙ below_lowest 64 (mask / 2 ^ s) (i - s) (omega arith);
+        here = λ h. found_here n le;
+      }
+
+  -- of a mask of 32 bits it is below 32
+  pub next_below : mask < 2 ^ 32 → mask / 2 ^ s ≢ 0 → mask / 2 ^ s ≤ mask → NextOpen mask s (Some (s + count_trailing_zeros 64 (mask / 2 ^ s)))
+  next_below small n le =
+      let wide : mask / 2 ^ s < 2 ^ 64 = omega arith in
+      (has_below 32 mask (s + count_trailing_zeros 64 (mask / 2 ^ s)) small (found_here n wide), next_found n wide)
 
 -- THE CALLS FROM c ON, and the slots from s on
 module _ (t : Task) (plan : List ℕ) where
@@ -138,10 +143,10 @@ module _ (t : Task) (left : ℕ) (plan : List ℕ) (c : ℕ) (pos : 0 < left) wh
     opened : s < 32 → tries_from t c slot plan ≡ after 1 (or_next (behind_slot t c s plan) (tries_from t c (s + 1) plan))
     opened h = passed s next.from (omega arith) (omega arith) ∙ slots_open t plan c s h (opens s ∙ eq-eqb (bit_of mask s) 1 (next.here h))
 
-    pub slots_done : slot ≤ 32 → s ≡ 32 → Clear (c + 1) plan → StepEnded (tries_from t c slot plan) left left (set plan c no_slot_given) (set plan c no_slot_given) ending.Nothing
+    pub slots_done : slot ≤ 32 → 32 ≤ s → Clear (c + 1) plan → StepEnded (tries_from t c slot plan) left left (set plan c no_slot_given) (set plan c no_slot_given) ending.Nothing
     slots_done le h clear =
         record {
-          ended = rw none_made (sym (ap (cut (left - 1)) (passed 32 le (omega arith) (omega arith) ∙ slots_end t plan c 32 (omega arith)) ∙ rw (le-leb 0 (left - 1) (omega arith)) refl));
+          ended = rw none_made (sym (ap (cut (left - 1)) (passed 32 le h (omega arith) ∙ slots_end t plan c 32 (omega arith)) ∙ rw (le-leb 0 (left - 1) (omega arith)) refl));
           fewer = omega arith;
           remains = pos;
           size = length-set plan c no_slot_given ∙ clear.size;

@@ -1,5 +1,5 @@
 -- STAGES, column by column, and the rules that calls make due, rule by rule. Assumes nothing.
-use Rattle.std.specs.Prelude.{◌≡◌, List, ◌≢◌, ℕ, ◌+◌, ◌<◌, ◌≤◌, get_or, replicate}
+use Rattle.std.specs.Prelude.{◌≡◌, List, ◌≢◌, ℕ, ◌+◌, ◌*◌, ◌<◌, ◌≤◌, max, get_or, replicate}
 use Rattle.std.proofs.Math.Path.{refl}
 use Rattle.std.proofs.Common.{sym, ◌∙◌, ⊎_elim, arith}
 use Rattle.std.proofs.lemmas.List.{length-replicate, get_or-replicate}
@@ -23,6 +23,13 @@ module _ (calls : List ℕ) (call : ℕ) where
   pub stage_here : call < 32 → get_or calls call 0 ≢ 0 → call + 1 ≡ column_stage calls call
   unfolding column_stage
   stage_here h n = rw (lt-ltb call 32 h, ne_eqb (get_or calls call 0) 0 n) refl
+
+-- OF A RULE: the largest of its columns' in two pairs
+pub stage_is : (calls columns : List ℕ) (p : ℕ) {a b c d first last r : ℕ} → a ≡ column_stage calls (get_or columns (4 * p) 0)
+    → b ≡ column_stage calls (get_or columns (4 * p + 1) 0) → first ≡ max a b → c ≡ column_stage calls (get_or columns (4 * p + 2) 0)
+    → d ≡ column_stage calls (get_or columns (4 * p + 3) 0) → last ≡ max c d → r ≡ max first last → r ≡ rule_stage calls columns p
+unfolding rule_stage
+stage_is calls columns p a b first c d last r = rw (← a, ← b, ← c, ← d, ← first, ← last) r
 
 -- THE RULES THAT CALLS MAKE DUE: none, one more, and all
 pub due_none : (calls columns : List ℕ) → DueRules calls columns 0 (replicate 32 0)

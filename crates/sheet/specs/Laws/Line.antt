@@ -19,12 +19,19 @@ short_appended e h a = let p = a.place in record { appended = append_same e a; s
 
 -- the line of what is refused: its kind and its number are bytes
 module _ {kind number : ℕ} (wk : kind ≤ 255) (wn : number ≤ 255) where
+  refusal_most : length (refused_line kind number) ≤ line_most
+  refusal_most = refused_most kind number wk wn
+
   -- what the function that writes it asks
+  pub refusal_asks : {place : ℕ} {out : List ℕ} → Room place line_most out
+      → Room place (length (refused_line kind number)) out × ((kind < decimal_end) × (number < decimal_end))
+  refusal_asks room = (room_less room refusal_most, (omega arith, omega arith))
+
   pub refusal_room : {place : ℕ} {out : List ℕ} → Room place line_most out → Room place (length (refused_line kind number)) out
-  refusal_room room = room_less room (refused_most kind number wk wn)
+  refusal_room room = let asks = refusal_asks room in asks.0
 
   pub refusal_appended : {place r : ℕ} {old new : List ℕ} → Appended (refused_line kind number) place old new r → LineAppended (refused_line kind number) place old new r
-  refusal_appended a = short_appended refl (refused_most kind number wk wn) a
+  refusal_appended a = short_appended refl refusal_most a
 
 -- the line of what is accepted: its kind is a digit
 kind_digit : (c : Command) → kind_of c < 10

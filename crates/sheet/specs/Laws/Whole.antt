@@ -1,6 +1,6 @@
 -- THE WHOLE SHEET from its parts: the lines of the input, and the last line behind them. Assumes nothing.
 use Rattle.std.specs.Prelude.{◌≡◌, refl, Bool, true, false, cond, List, [], ◌∷◌, ◌++◌, ℕ, ◌≤◌, ◌<◌, length, take, drop, ltb}
-use Rattle.std.proofs.Common.{sym, ap, ◌∙◌, arith, length-append, take-append-drop, take_at, lt-ltb, le-ltb, Ok, Err, Result}
+use Rattle.std.proofs.Common.{sym, ap, ◌∙◌, arith, length-append, take-append-drop, take_at, length-take-le, lt-ltb, le-ltb, Ok, Err, Result}
 use Rattle.model.specs.declared.refusal.Refusal.{Refusal}
 use Rattle.model.specs.declared.refusal.Refusal.TheVariants as kind
 use Rattle.model.specs.Promise.{values_at}
@@ -72,6 +72,9 @@ module _ {input before : List ℕ} {given : Result ℕ Refusal} {after : List �
 
   pub written_fits : n ≤ length after
   written_fits = omega (arith, written.0, ap length written.1, length-append (sheet_of input) (drop (length (sheet_of input)) before))
+
+  pub written_part : n ≡ length (take n after)
+  written_part = sym (length-take-le n after written_fits)
 
   pub written_bytes : take n after ≡ sheet_of input
   written_bytes =

@@ -1,7 +1,7 @@
 -- A loop that appends the bytes f i in its round i. Assumes nothing.
-use Rattle.std.specs.Prelude.{◌≡◌, refl, ◌⊎◌}
+use Rattle.std.specs.Prelude.{◌≡◌, refl, ◌⊎◌, take, get_or}
 use Rattle.std.proofs.Math.Path.{sym, ap}
-use Rattle.std.proofs.Common.{◌∙◌, inl, inr, add-zero, zero-add, suc-add, add-suc, eq-or-lt_of_le, le_of_suc-le-suc, add-one, List, [], ◌∷◌, ◌++◌, append_assoc, append-nil, ℕ, zero, suc, ◌+◌, ◌*◌, ◌≤◌, ◌<◌, arith}
+use Rattle.std.proofs.Common.{◌∙◌, inl, inr, add-zero, zero-add, suc-add, add-suc, eq-or-lt_of_le, le_of_suc-le-suc, add-one, take-suc, List, [], ◌∷◌, ◌++◌, append_assoc, append-nil, ℕ, zero, suc, ◌+◌, ◌*◌, ◌≤◌, ◌<◌, arith}
 use Rattle.std.proofs.Math.Nat.{mul-suc}
 use Rattle.std.proofs.Math.ListN.{length, length-append}
 use Rattle.model.specs.Tests.{up_from}
@@ -62,3 +62,9 @@ pub joined_same : (f g : ℕ → List ℕ) (n : ℕ) → ((i : ℕ) → i < n �
 unfolding joined
 joined_same f g zero same = refl
 joined_same f g (suc n) same = let e = joined_same f g n (λ i h. same i (omega arith)) in let d = same n (omega arith) in rw (e, d) refl
+
+-- the bytes of a list, one by one
+pub joined_bytes : (l : List ℕ) (n : ℕ) → n ≤ length l → joined (λ i. get_or l i 0 ∷ []) n ≡ take n l
+unfolding joined
+joined_bytes l zero h = refl
+joined_bytes l (suc n) h = rw (joined_bytes l n (omega arith), take-suc l n 0 (omega arith)) refl

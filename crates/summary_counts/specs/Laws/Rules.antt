@@ -61,6 +61,11 @@ columns_more {scope} {q} {n} {m} {old} {mid} {new} so_far added =
       each = λ c l. rw add-one (omega (arith, so_far.each c l, added.each c l));
     }
 
+-- all four of them
+pub added_four : {scope : List ℕ} {q n : ℕ} {a b d e f : List ℕ} → ColumnAdded scope q n 0 a b → ColumnAdded scope q n 1 b d → ColumnAdded scope q n 2 d e → ColumnAdded scope q n 3 e f
+    → ColumnsAdded scope q n 4 a f
+added_four {scope} {q} {n} {a} w x y z = columns_more (columns_more (columns_more (columns_more (columns_none scope q n a) w) x) y) z
+
 -- none of them counts where the arity is 0
 pub added_bare : (scope : List ℕ) (q n : ℕ) (on : List ℕ) → n ≡ 0 → ColumnsAdded scope q n 4 on on
 added_bare scope q n on none = record { size = refl; each = λ c l. rw none (omega arith) }
@@ -80,6 +85,10 @@ on_calls_more {h} {q} {n} {old} {new} so_far is added =
           ∙ sym (count_row 4 q (λ p k. column_on? h.scope p (get_or h.arity p 0) c k) (omega arith))
           ∙ sym (ap (λ (m : ℕ). columns_on h m c) size);
     }
+
+-- after the last, where the loop's test says that q is m
+pub on_calls_at : {h : Heads} {q m : ℕ} {on : List ℕ} → ColumnsTo h q on → q ≤ m → m ≤ q → ColumnsTo h m on
+on_calls_at {q = q} {m = m} x le ge = let e : m ≡ q = omega arith in rw e x
 
 -- the columns of q rules are four for each at most
 pub on_calls_most : {h : Heads} {q : ℕ} {on : List ℕ} → ColumnsTo h q on → AtMost (4 * q) on

@@ -1,5 +1,5 @@
 -- What each function comes to is a step of the search.
-use Rattle.std.proofs.Common.{refl, sym, ap, ◌∙◌, eq-eqb, ne_eqb, not}
+use Rattle.std.proofs.Common.{refl, sym, ap, ◌∙◌, arith, eq-eqb, ne_eqb, not}
 use Rattle.plan_lay.specs.Laws.Steps.{calls_done, call_skipped, call_laid, slots_done, slot_found, slot_stops, slot_leaves, slot_vain, slot_stays}
 use Rattle.plan_lay.proofs.lay.+lay_calls_lay_slot_lay_slots.Goals as goal
 
@@ -24,7 +24,7 @@ lay_slot-returns t c =
 
 pub lay_slots-returns-in_default : goal.lay_slots-returns-in_default
 lay_slots-returns-in_default t c =
-    slots_done _ _ _ _ c.requires.left_nonzero (λ i. refl) c.in_default.ensures c.requires.slot_bound refl c.requires.clear
+    slots_done _ _ _ _ c.requires.left_nonzero (λ i. refl) c.in_default.ensures c.requires.slot_bound (omega arith) c.requires.clear
 
 pub lay_slots-returns-in-Found : goal.lay_slots-returns-in-Found
 lay_slots-returns-in-Found t c =
