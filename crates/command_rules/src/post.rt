@@ -2,7 +2,7 @@
 ghost use Rattle.std.specs.Prelude.{◌≡◌};
 ghost use Rattle.model.specs.declared.command.Command.TheVariants as kind;
 ghost use Rattle.command_rules.specs.Checks.{post_checks};
-ghost use Rattle.command_rules.specs.Changes.{RulesPromise};
+ghost use Rattle.command_rules.specs.Changes.{Posted, RulesPromise};
 ghost use Rattle.layout.specs.Memory.{memory};
 ghost use Rattle.model.specs.Refusals.{first_of, number_of};
 
@@ -18,6 +18,23 @@ pub fn check_post(heads: &Heads, number: u8, columns: u8) -> Result<(), Refusal>
     Refusal::NoBoard.when(heads.counts[0] == 0)?;
     Refusal::NoDraft.when(columns == 0)?;
     Refusal::InForce.when(heads.arity[rule_index(number)] != 0)
+}
+
+// A draft comes into force under its number, whatever stands there. It may be another than the value's own, which stays.
+pub fn post_unchecked(
+    mut value: Value,
+    draft: Draft,
+    rows: &mut [u8; ROWS],
+    killers: &mut [u8; KILLERS],
+    slots: &mut [u8; SLOTS],
+) -> Outcome
+    ensures { Posted
+        draft (memory value rows.old killers.old slots.old) result.answer
+        (memory result.value rows.new killers.new slots.new) }
+{
+    let p = rule_index(draft.number);
+    let n = filter_post::post(rows, killers, slots, &mut value.heads, p, &draft.rule);
+    Outcome::accepted(n, 0, n, value)
 }
 
 // The whole of kind 4: refused, and nothing is changed; or the draft is in force, and there is none left.
