@@ -1,4 +1,5 @@
 // The questions: the slots of a call, the state of a slot, a row's state and its four bytes, and the support of a slot in a rule's column.
+// Of the value each copies the lists that it reads: to lend them where they lie makes the compiler copy the value whole, which takes half the time again.
 // Proved: each answer meets its promise of the model's specs/Questions.antt, on any value and any buffers. Assumed: nothing.
 #![tactic(auto)]
 
