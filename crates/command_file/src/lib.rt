@@ -11,7 +11,7 @@ ghost use Rattle.command_run.specs.Store.{Stores};
 ghost use Rattle.command_file.specs.Replay.{FreshBuffers, ReplayPromise, IsFresh, InFile, ended_at, Taken, FileTaken, FileCounted, none_replayed};
 
 use command_decode::decode;
-use command_run::obey_bytes;
+use command_run::{marks_array, obey_bytes};
 use layout::marks::MARKS;
 use layout::names::{NAMES, forget};
 use layout::summary::{RECORDS, Table};
@@ -223,7 +223,7 @@ pub fn replay_core(
     let Some(slots) = slots.as_mut_array::<SLOTS>() else {
         return refused(Refusal::BufferLength, value);
     };
-    let Some(marks) = marks.as_mut_array::<MARKS>() else {
+    let Some(marks) = marks_array(marks) else {
         return refused(Refusal::BufferLength, value);
     };
     replay_buffers(value, names, file, rows, killers, slots, marks, n)

@@ -3,11 +3,15 @@
 // Proved: what a command answers and leaves, with its records stored into any table of that length, is what specs/Promise.antt of the crate model says. Assumed: nothing.
 #![tactic(auto)]
 
-ghost use Rattle.std.specs.Prelude.{◌≡◌};
+ghost use Rattle.std.specs.Prelude.{◌≡◌, ◌≢◌, length, MatchOption};
+ghost use Rattle.std.specs.Borrow.{sem};
+ghost use Rattle.std.specs.Array.{IsWholeChunk};
 ghost use Rattle.model.specs.Commands.{read_at};
 ghost use Rattle.model.specs.Ledger.{lengths};
 ghost use Rattle.model.specs.Promise.{MemoryPromise, Promise};
 ghost use Rattle.layout.specs.Memory.{marked_memory, whole_of};
+ghost use Rattle.layout.specs.Sizes.{marks_length};
+ghost use Rattle.command_run.specs.Lent.{LendsMarks};
 ghost use Rattle.command_run.specs.Store.{Stores, WithRecords, none_to_store};
 
 use command_decode::decode;
@@ -98,6 +102,14 @@ pub fn with_records(outcome: Outcome, slots: &[u8; SLOTS]) -> Done
     }
 }
 
+// The marks as an array, where they have their length. A command and a replay are lent them alike.
+pub fn marks_array(marks: &mut [u8]) -> Option<&mut [u8; MARKS]>
+    ensures cases { MatchOption result (length marks.old ≢ marks_length) (λ y. IsWholeChunk marks.old y.now marks_length) }
+    ensures* writes_back { sem 𝓛 (LendsMarks marks.entry result) }
+{
+    marks.as_mut_array::<MARKS>()
+}
+
 // The command with a table of n records.
 pub fn command_core(
     value: Value,
@@ -124,7 +136,7 @@ pub fn command_core(
     let Some(slots) = slots.as_mut_array::<SLOTS>() else {
         return none_to_store(Outcome::refused(Refusal::BufferLength, value));
     };
-    let Some(marks) = marks.as_mut_array::<MARKS>() else {
+    let Some(marks) = marks_array(marks) else {
         return none_to_store(Outcome::refused(Refusal::BufferLength, value));
     };
     if n != RECORDS {

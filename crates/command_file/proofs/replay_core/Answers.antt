@@ -16,12 +16,12 @@ returns-in_default-as_mut_array-2 c =
     rw (c.refused-in_default-as_mut_array-2.ensures, c.in-Some.ensures.cases.same, c.in-Some-as_mut_array.ensures.cases.same)
     (replay_lengths _ _ _ (bad_slots _ _ c.in-Some.ensures.cases.long c.in-Some-as_mut_array.ensures.cases.long c.in_default-as_mut_array-2.ensures.cases))
 
-pub returns-in_default-as_mut_array-3 : goal.returns-in_default-as_mut_array-3
-returns-in_default-as_mut_array-3 c =
-    rw (c.refused-in_default-as_mut_array-3.ensures, c.in-Some.ensures.cases.same, c.in-Some-as_mut_array.ensures.cases.same, c.in-Some-as_mut_array-2.ensures.cases.same)
-    (replay_lengths _ _ _ (bad_marks _ _ c.in-Some.ensures.cases.long c.in-Some-as_mut_array.ensures.cases.long c.in-Some-as_mut_array-2.ensures.cases.long c.in_default-as_mut_array-3.ensures.cases))
+pub returns-in_default-marks_array : goal.returns-in_default-marks_array
+returns-in_default-marks_array c =
+    rw (c.refused-in_default-marks_array.ensures, c.in-Some.ensures.cases.same, c.in-Some-as_mut_array.ensures.cases.same, c.in-Some-as_mut_array-2.ensures.cases.same)
+    (replay_lengths _ _ _ (bad_marks _ _ c.in-Some.ensures.cases.long c.in-Some-as_mut_array.ensures.cases.long c.in-Some-as_mut_array-2.ensures.cases.long c.in_default-marks_array.ensures.cases))
 
 pub returns : goal.returns
 returns c =
-    rw (c.in-Some.ensures.cases.same, c.in-Some-as_mut_array.ensures.cases.same, c.in-Some-as_mut_array-2.ensures.cases.same, c.in-Some-as_mut_array-3.ensures.cases.same) at
+    rw (c.in-Some.ensures.cases.same, c.in-Some-as_mut_array.ensures.cases.same, c.in-Some-as_mut_array-2.ensures.cases.same, c.in-Some-marks_array.ensures.cases.same) at
     c.replay_buffers.ensures

@@ -17,17 +17,17 @@ returns-in_default-as_mut_array-2 c =
     rw (c.none_to_store-in_default-as_mut_array-2.ensures, c.refused-in_default-as_mut_array-2.ensures, c.in-Some.ensures.cases.same, c.in-Some-as_mut_array.ensures.cases.same)
     (stores_lengths _ _ _ (bad_slots _ _ c.in-Some.ensures.cases.long c.in-Some-as_mut_array.ensures.cases.long c.in_default-as_mut_array-2.ensures.cases))
 
-pub returns-in_default-as_mut_array-3 : goal.returns-in_default-as_mut_array-3
-returns-in_default-as_mut_array-3 c =
-    rw (c.none_to_store-in_default-as_mut_array-3.ensures, c.refused-in_default-as_mut_array-3.ensures, c.in-Some.ensures.cases.same, c.in-Some-as_mut_array.ensures.cases.same, c.in-Some-as_mut_array-2.ensures.cases.same)
-    (stores_lengths _ _ _ (bad_marks _ _ c.in-Some.ensures.cases.long c.in-Some-as_mut_array.ensures.cases.long c.in-Some-as_mut_array-2.ensures.cases.long c.in_default-as_mut_array-3.ensures.cases))
+pub returns-in_default-marks_array : goal.returns-in_default-marks_array
+returns-in_default-marks_array c =
+    rw (c.none_to_store-in_default-marks_array.ensures, c.refused-in_default-marks_array.ensures, c.in-Some.ensures.cases.same, c.in-Some-as_mut_array.ensures.cases.same, c.in-Some-as_mut_array-2.ensures.cases.same)
+    (stores_lengths _ _ _ (bad_marks _ _ c.in-Some.ensures.cases.long c.in-Some-as_mut_array.ensures.cases.long c.in-Some-as_mut_array-2.ensures.cases.long c.in_default-marks_array.ensures.cases))
 
 pub returns-then-n-ne-RECORDS : goal.returns-then-n-ne-RECORDS
 returns-then-n-ne-RECORDS c =
-    rw (c.none_to_store-then-n-ne-RECORDS.ensures, c.refused-then-n-ne-RECORDS.ensures, c.in-Some.ensures.cases.same, c.in-Some-as_mut_array.ensures.cases.same, c.in-Some-as_mut_array-2.ensures.cases.same, c.in-Some-as_mut_array-3.ensures.cases.same)
-    (stores_table _ _ _ (good_buffers _ _ c.in-Some.ensures.cases.long c.in-Some-as_mut_array.ensures.cases.long c.in-Some-as_mut_array-2.ensures.cases.long c.in-Some-as_mut_array-3.ensures.cases.long) c.if-n-ne-RECORDS.true)
+    rw (c.none_to_store-then-n-ne-RECORDS.ensures, c.refused-then-n-ne-RECORDS.ensures, c.in-Some.ensures.cases.same, c.in-Some-as_mut_array.ensures.cases.same, c.in-Some-as_mut_array-2.ensures.cases.same, c.in-Some-marks_array.ensures.cases.same)
+    (stores_table _ _ _ (good_buffers _ _ c.in-Some.ensures.cases.long c.in-Some-as_mut_array.ensures.cases.long c.in-Some-as_mut_array-2.ensures.cases.long c.in-Some-marks_array.ensures.cases.long) c.if-n-ne-RECORDS.true)
 
 pub returns : goal.returns
 returns c =
-    stores_done _ _ _ (good_buffers _ _ c.in-Some.ensures.cases.long c.in-Some-as_mut_array.ensures.cases.long c.in-Some-as_mut_array-2.ensures.cases.long c.in-Some-as_mut_array-3.ensures.cases.long) c.if-n-ne-RECORDS.false _ _ _ refl
-    (rw (c.in-Some.ensures.cases.same, c.in-Some-as_mut_array.ensures.cases.same, c.in-Some-as_mut_array-2.ensures.cases.same, c.in-Some-as_mut_array-3.ensures.cases.same) at c.obey_bytes-outcome.ensures) c.with_records.ensures
+    stores_done _ _ _ (good_buffers _ _ c.in-Some.ensures.cases.long c.in-Some-as_mut_array.ensures.cases.long c.in-Some-as_mut_array-2.ensures.cases.long c.in-Some-marks_array.ensures.cases.long) c.if-n-ne-RECORDS.false _ _ _ refl
+    (rw (c.in-Some.ensures.cases.same, c.in-Some-as_mut_array.ensures.cases.same, c.in-Some-as_mut_array-2.ensures.cases.same, c.in-Some-marks_array.ensures.cases.same) at c.obey_bytes-outcome.ensures) c.with_records.ensures
